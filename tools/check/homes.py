@@ -88,6 +88,7 @@ def unasked() -> Iterator[str]:
     """What a door hands on and no program can use, and what a room gives and no crate takes."""
     asked = defaultdict[str, set[str]](set)
     library = {*re.findall(r"\w+", "".join(re.findall("`[^`]+`", text_if("docs/LIBRARY.md"))))}
+    pages = text_if("docs/LIBRARY.md") + text_if("docs/MACHINES.md")
     for file in sources("src", "specs", "proofs"):
         for below, name in taken(file):
             asked[below] |= {name} if below != file.crate else set()
@@ -106,8 +107,8 @@ def unasked() -> Iterator[str]:
         for name, module in handed_on(crate, SPECS).items():
             if module.endswith(".specs"):
                 yield f"crates/{crate}/{SPECS}: it hands on all of {name}"
-            elif f"Rattle.{module}" not in code:
-                yield f"crates/{crate}/{SPECS}: no code cites {name}"
+            elif f"Rattle.{module}" not in code and f"Rattle.{crate}.specs.{name}." not in pages:
+                yield f"crates/{crate}/{SPECS}: no code and no page cites {name}"
 
 
 def unlisted() -> Iterator[str]:

@@ -19,8 +19,7 @@ from collections.abc import Iterator, Mapping, Sequence
 from typing import NamedTuple
 
 from common.files import cases_in, without_links
-from common.sources import sources
-from rule_tables import SHORT_NAME, Table, object_named, tests_of, with_effects
+from rule_tables import SHORT_NAME, Table, object_named, tests_of, texts_defined, with_effects
 
 THING = r"(\(the name\.\w+\)|\w+)"
 # What is done to an object, and what has no object, by the words of definitions and of pages.
@@ -60,7 +59,7 @@ class Names:
     """What words of the definitions mean: things, numbers, and single effects by other names."""
 
     def __init__(self) -> None:
-        texts = [it.text for it in sources("specs")]
+        texts = texts_defined().values()
         short = dict(it for text in texts for it in SHORT_NAME.findall(text))
         whole = {it: it for text in texts for it in re.findall(r"\(the name\.(\w+)\)", text)}
         self.things = {it: object_named(name) for it, name in short.items()}

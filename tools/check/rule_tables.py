@@ -39,6 +39,8 @@ NAME = re.compile(r"(?<![.\w])[a-z]\w*")
 SHORT_NAME = re.compile(r"^ *(\w+) = the name\.(\w+)$", re.MULTILINE)
 THING = re.compile(r"\bname\.(\w+)|(?<![.\w])([a-z]\w*)")
 ROLE = re.compile(r"\brole\.(\w+)")
+TYPE = re.compile(r"\b(Named|Verb|Ending)\.(?=[A-Z])")
+WORDS = {"Named": "name.", "Verb": "verb.", "Ending": "ending."}
 NUMBER = re.compile(r"(?<![\w.])(?!1\b|100\b)[1-9]\d*")
 Noted = dict[str, dict[str, None]]  # the names of the rows of each table that is noted
 Tables = dict[str, tuple[str, Sequence[str]]]  # each with its name and the words of its rows
@@ -93,9 +95,14 @@ def table_of(block: str) -> Table | None:
     return Table(name, form, word, kind, text, rows)
 
 
+def texts_defined() -> dict[str, str]:
+    """The files of definitions, with one word for a type, whether a file names it or a short name."""
+    return {it.path: TYPE.sub(lambda found: WORDS[found[1]], it.text) for it in sources("specs")}
+
+
 def tables_defined() -> dict[str, list[Table]]:
-    return {file.path: [*filter(None, map(table_of, re.split(r"\n\s*\n", file.text)))]
-            for file in sources("specs")}
+    return {path: [*filter(None, map(table_of, re.split(r"\n\s*\n", text)))]
+            for path, text in texts_defined().items()}
 
 
 def depths(text: str) -> Iterator[int]:
@@ -153,7 +160,7 @@ def rows_in_words(defined: dict[str, list[Table]]) -> dict[str, list[Words]]:
     its tests, or of an effect of a list, and all objects and numbers above 1 that it has, without
     those of a list that has a table of its own."""
     shown = {name for it in tables_shown() for name in it.names}
-    short_names = dict(it for file in sources("specs") for it in SHORT_NAME.findall(file.text))
+    short_names = dict(it for text in texts_defined().values() for it in SHORT_NAME.findall(text))
     effects = defaultdict[str, dict[str, str]](dict)  # of each crate
     for path, tables in defined.items():
         effects[path.split("/")[1]] |= {it.name: it.text for it in tables if it.form == "effects"}
@@ -207,7 +214,7 @@ def plain(cell: str) -> str:
 def tables_in_words() -> Tables:
     """The tables whose rows are noted, in the order of the pages, each with its name there, and the
     words in which its rows say when they apply."""
-    noted = noted_in(it.text for it in sources("specs"))
+    noted = noted_in(texts_defined().values())
     found: Tables = {}
     for shown in tables_shown():
         tables = [table for table, rows in noted.items() if any(it in rows for it in shown.names)]

@@ -1,4 +1,5 @@
 pub mod Bytes
+pub mod Equality
 pub mod Line
 pub mod LogLine
 pub mod Limits

@@ -13,7 +13,6 @@ use Rattle.data_rows.specs.declared.error.Cause.{Cause}
 use Rattle.data_rows.specs.declared.error.Cause.TheVariants.{BadSection, BadNumber, OutOfRange}
 use Rattle.data_rows.specs.declared.error.Cause.TheVariants.{TooManyRows}
 use Rattle.data_rows.specs.declared.error.Section.{Section}
-use Rattle.data_rows.specs.declared.error.Section.TheVariants as section
 use Rattle.data_rows.specs.declared.number.Number.TheVariants.{Negative}
 use Rattle.data_rows.specs.declared.position.Position.{Position}
 use Rattle.data_rows.specs.declared.position.Position.TheVariants.{Outside, Inside, After}
@@ -46,22 +45,22 @@ made row = Ok row
 -- a line that is in its ranges, and isn't a row, has a list that is too long
 too_long : (s : Section) (line : List ℕ) (cause : Cause) → entry_in s line ≡ Err cause
     → IsInRange s line → HasLongList s line
-too_long section.Travel line cause e (place, going, is) = at (leb (length going.motions) 40) refl
+too_long Section.Travel line cause e (place, going, is) = at (leb (length going.motions) 40) refl
   where
-    at : (b : Bool) → leb (length going.motions) 40 ≡ b → HasLongList section.Travel line
+    at : (b : Bool) → leb (length going.motions) 40 ≡ b → HasLongList Section.Travel line
     at true few =
         let row = in_3 is (grind (arith, nat_tests, few)) in
-        let read : entry_in section.Travel line ≡ Ok (Way place going) =
-        entry-read section.Travel line (Way place going) row in
+        let read : entry_in Section.Travel line ≡ Ok (Way place going) =
+        entry-read Section.Travel line (Way place going) row in
         absurd (cc (read, e))
     at false many = (place, going, is, grind (arith, nat_tests, many))
-too_long section.Conditions line cause e (bit, places, is) = at (leb (length places) 40) refl
+too_long Section.Conditions line cause e (bit, places, is) = at (leb (length places) 40) refl
   where
-    at : (b : Bool) → leb (length places) 40 ≡ b → HasLongList section.Conditions line
+    at : (b : Bool) → leb (length places) 40 ≡ b → HasLongList Section.Conditions line
     at true few =
         let row = in_9 is (grind (arith, nat_tests, few)) in
-        let read : entry_in section.Conditions line ≡ Ok (ConditionRow bit places) =
-        entry-read section.Conditions line (ConditionRow bit places) row in
+        let read : entry_in Section.Conditions line ≡ Ok (ConditionRow bit places) =
+        entry-read Section.Conditions line (ConditionRow bit places) row in
         absurd (cc (read, e))
     at false many = (bit, places, is, grind (arith, nat_tests, many))
 too_long s line cause e is = let read = entry-read s line is.0 is.1 in cc
@@ -114,7 +113,7 @@ none_before (suc object) line e =
 lacks_object : (before : List Entry) (line : List ℕ) (row : TextLine)
     → IsTextRow IsObjectOrProp line row
     → object_after (object_after_lines (filter_map object_line_of before)) row ≡ 0
-    → LacksObject before section.Objects line
+    → LacksObject before Section.Objects line
 lacks_object before line row is e =
     let object = object_after_lines (filter_map object_line_of before) in
     let isnt : ¬ IsOfObject row.number =
@@ -157,16 +156,16 @@ limit_is : (before : List Entry) (s : Section) (line : List ℕ) (entry : Entry)
     → IsRow s line entry → limit_cause before entry ≡ Some cause → IsLimit before s line cause
 limit_is before s line entry cause (in_3 {place = place} {going = going} is few) e =
     let h = full MAX_WAYS (length (filter_map way_of before)) cause e in
-    subst (IsLimit before section.Travel line) (sym h.0) h.1
+    subst (IsLimit before Section.Travel line) (sym h.0) h.1
 limit_is before s line entry cause (in_4 {entry = word} is) e =
     let h = full MAX_WORDS (length (filter_map word_entry_of before)) cause e in
-    subst (IsLimit before section.Words line) (sym h.0) h.1
+    subst (IsLimit before Section.Words line) (sym h.0) h.1
 limit_is before s line entry cause (in_5 {row = row} is) e =
     let h = no_object _ cause e in
-    subst (IsLimit before section.Objects line) (sym h.0) (lacks_object before line row is h.1)
+    subst (IsLimit before Section.Objects line) (sym h.0) (lacks_object before line row is h.1)
 limit_is before s line entry cause (in_10 {row = row} is) e =
     let h = full MAX_CLASSES (length (filter_map class_line_of before)) cause e in
-    subst (IsLimit before section.Classes line) (sym h.0) h.1
+    subst (IsLimit before Section.Classes line) (sym h.0) h.1
 limit_is before s line entry cause (in_1 is) e = cc
 limit_is before s line entry cause (in_2 is) e = cc
 limit_is before s line entry cause (in_6 is) e = cc

@@ -7,7 +7,6 @@ use Rattle.std.specs.Result.{is_ok}
 use Rattle.data_rows.specs.declared.error.Cause.{Cause}
 use Rattle.data_rows.specs.declared.error.Cause.TheVariants.{BadNumber, OutOfRange, TooManyRows}
 use Rattle.data_rows.specs.declared.error.Section.{Section}
-use Rattle.data_rows.specs.declared.error.Section.TheVariants as section
 use Rattle.data_rows.specs.declared.number.Number.{Number}
 use Rattle.data_rows.specs.declared.number.Number.TheVariants.{Natural, Negative}
 use Rattle.data_rows.specs.Rows.{Going, ◌>>=◌, number_or_cause, numbers_to_zero, list_in, few_of}
@@ -174,7 +173,7 @@ object_judged line =
     ranged (object_or_prop n.0) _ (object_only n.0)
     (λ number. ranged (text_or_cause n.1) _ (chosen OutOfRange _ _) (λ text. refl)))
 
-word_judged : (line : List ℕ) → Simple (word_row line) (reads_parts section.Words line)
+word_judged : (line : List ℕ) → Simple (word_row line) (reads_parts Section.Words line)
 unfolding word_row
 word_judged line =
     part (number_or_cause line) _ _ (number_only line) (λ n.
@@ -182,7 +181,7 @@ word_judged line =
     (λ word. ranged (word_number n.0) _ (word_only n.0) (λ number. refl)))
 
 placement_judged : (line : List ℕ)
-    → Simple (placement_row line) (reads_parts section.Placements line)
+    → Simple (placement_row line) (reads_parts Section.Placements line)
 unfolding placement_row
 placement_judged line =
     part (number_or_cause line) _ _ (number_only line) (λ x.
@@ -192,7 +191,7 @@ placement_judged line =
     ranged (within 0 300 p.0) _ (within_only 0 300 p.0)
     (λ first. ranged (second_place q.0) _ (second_only q.0) (λ second. refl))))))
 
-default_judged : (line : List ℕ) → Simple (default_row line) (reads_parts section.Defaults line)
+default_judged : (line : List ℕ) → Simple (default_row line) (reads_parts Section.Defaults line)
 unfolding default_row
 default_judged line =
     part (number_or_cause line) _ _ (number_only line) (λ a.
@@ -200,7 +199,7 @@ default_judged line =
     ranged (within 1 99 a.0) _ (within_only 1 99 a.0)
     (λ action. ranged (within 0 499 m.0) _ (within_only 0 499 m.0) (λ message. refl))))
 
-hint_judged : (line : List ℕ) → Simple (hint_row line) (reads_parts section.Hints line)
+hint_judged : (line : List ℕ) → Simple (hint_row line) (reads_parts Section.Hints line)
 unfolding hint_row
 hint_judged line =
     part (number_or_cause line) _ _ (number_only line) (λ h.
@@ -215,8 +214,8 @@ hint_judged line =
     (λ question. ranged (within 0 499 x.0) _ (within_only 0 499 x.0) (λ text. refl))))))))))
 
 condition_judged : (line : List ℕ)
-    → Judged (condition_row line) (reads_parts section.Conditions line)
-    (reads_in_range section.Conditions line)
+    → Judged (condition_row line) (reads_parts Section.Conditions line)
+    (reads_in_range Section.Conditions line)
 unfolding condition_row
 condition_judged line =
     listed (number_or_cause line) _ _ _ (number_only line) (λ b.
@@ -229,7 +228,7 @@ abbrev some_if : Bool → List Number → Result (List Number) Cause
 some_if some list = cond some (Ok list) (Err BadNumber)
 
 way_judged : (line : List ℕ)
-    → Judged (way_row line) (reads_parts section.Travel line) (reads_in_range section.Travel line)
+    → Judged (way_row line) (reads_parts Section.Travel line) (reads_in_range Section.Travel line)
 unfolding way_row
 way_judged line =
     listed (number_or_cause line) _ _ _ (number_only line) (λ x.
@@ -252,15 +251,15 @@ way_judged line =
 
 pub row_judged : (s : Section) (line : List ℕ)
     → Judged (entry_in s line) (reads_parts s line) (reads_in_range s line)
-row_judged section.LongTexts line = judged (text_line 1 300 line) _ _ (text_judged 1 300 line)
-row_judged section.ShortTexts line = judged (text_line 1 300 line) _ _ (text_judged 1 300 line)
-row_judged section.Travel line = entered (way_row line) _ _ _ (way_judged line)
-row_judged section.Words line = judged (word_row line) _ _ (word_judged line)
-row_judged section.Objects line = judged (object_line line) _ _ (object_judged line)
-row_judged section.Messages line = judged (text_line 1 499 line) _ _ (text_judged 1 499 line)
-row_judged section.Placements line = judged (placement_row line) _ _ (placement_judged line)
-row_judged section.Defaults line = judged (default_row line) _ _ (default_judged line)
-row_judged section.Conditions line = entered (condition_row line) _ _ _ (condition_judged line)
-row_judged section.Classes line = judged (text_line 0 9999 line) _ _ (text_judged 0 9999 line)
-row_judged section.Hints line = judged (hint_row line) _ _ (hint_judged line)
-row_judged section.Magic line = judged (text_line 1 499 line) _ _ (text_judged 1 499 line)
+row_judged Section.LongTexts line = judged (text_line 1 300 line) _ _ (text_judged 1 300 line)
+row_judged Section.ShortTexts line = judged (text_line 1 300 line) _ _ (text_judged 1 300 line)
+row_judged Section.Travel line = entered (way_row line) _ _ _ (way_judged line)
+row_judged Section.Words line = judged (word_row line) _ _ (word_judged line)
+row_judged Section.Objects line = judged (object_line line) _ _ (object_judged line)
+row_judged Section.Messages line = judged (text_line 1 499 line) _ _ (text_judged 1 499 line)
+row_judged Section.Placements line = judged (placement_row line) _ _ (placement_judged line)
+row_judged Section.Defaults line = judged (default_row line) _ _ (default_judged line)
+row_judged Section.Conditions line = entered (condition_row line) _ _ _ (condition_judged line)
+row_judged Section.Classes line = judged (text_line 0 9999 line) _ _ (text_judged 0 9999 line)
+row_judged Section.Hints line = judged (hint_row line) _ _ (hint_judged line)
+row_judged Section.Magic line = judged (text_line 1 499 line) _ _ (text_judged 1 499 line)

@@ -7,7 +7,6 @@ use Rattle.std.proofs.lemmas.List.{length-map}
 use Rattle.data_rows.specs.declared.error.Cause.{Cause}
 use Rattle.data_rows.specs.declared.error.Cause.TheVariants.{BadNumber, OutOfRange, TooManyRows}
 use Rattle.data_rows.specs.declared.error.Section.{Section}
-use Rattle.data_rows.specs.declared.error.Section.TheVariants as section
 use Rattle.data_rows.specs.declared.number.Number.{Number}
 use Rattle.data_rows.specs.declared.number.Number.TheVariants.{Natural}
 use Rattle.data_rows.specs.Fields.{after_blanks, after_field}
@@ -26,17 +25,17 @@ use Rattle.base_lines.specs.Numbers.{LAST_PLACE, LAST_HINT}
 
 -- whether the numbers and words of a row of the section are read
 abbrev pub reads_parts : Section → List ℕ → Bool
-reads_parts section.Travel line =
+reads_parts Section.Travel line =
     is_ok (number_or_cause line >>= λ place. number_or_cause place.1 >>= λ target. list_in target.1
     >>= some_of)
-reads_parts section.Words line = is_ok (number_or_cause line >>= λ number. word_or_cause number.1)
-reads_parts section.Placements line =
+reads_parts Section.Words line = is_ok (number_or_cause line >>= λ number. word_or_cause number.1)
+reads_parts Section.Placements line =
     is_ok (number_or_cause line >>= λ object. number_or_zero object.1
     >>= λ first. number_or_zero first.1)
-reads_parts section.Defaults line =
+reads_parts Section.Defaults line =
     is_ok (number_or_cause line >>= λ action. number_or_cause action.1)
-reads_parts section.Conditions line = is_ok (number_or_cause line >>= λ bit. list_in bit.1)
-reads_parts section.Hints line =
+reads_parts Section.Conditions line = is_ok (number_or_cause line >>= λ bit. list_in bit.1)
+reads_parts Section.Hints line =
     is_ok (number_or_cause line >>= λ hint. number_or_cause hint.1
     >>= λ turns. number_or_cause turns.1 >>= λ points. number_or_cause points.1
     >>= λ question. number_or_cause question.1)
@@ -44,11 +43,11 @@ reads_parts s line = is_ok (number_or_cause line)
 
 -- whether a row is read, however long a list of it is
 abbrev pub reads_in_range : Section → List ℕ → Bool
-reads_in_range section.Travel line =
+reads_in_range Section.Travel line =
     is_ok (number_or_cause line >>= λ place. number_or_cause place.1 >>= λ target. list_in target.1
     >>= λ list. some_of list >>= λ motions. within 1 LAST_PLACE place.0
     >>= λ from. within 0 LAST_TARGET target.0 >>= λ to. all_within 1 LAST_MOTION motions)
-reads_in_range section.Conditions line =
+reads_in_range Section.Conditions line =
     is_ok (number_or_cause line >>= λ bit. list_in bit.1 >>= λ places. within 0 LAST_HINT bit.0
     >>= λ number. all_within 1 LAST_PLACE places)
 reads_in_range s line = is_ok (entry_in s line)
@@ -79,7 +78,7 @@ read_first line e =
     let n = ok_found (number_or_cause line) e in (n.0.0, n.0.1, read-number line n.0 n.1)
 
 pub parts_found : (s : Section) (line : List ℕ) → reads_parts s line ≡ true → HasParts s line
-parts_found section.Travel line e =
+parts_found Section.Travel line e =
     let x = ok_steps (number_or_cause line) _ e in
     let y = ok_steps (number_or_cause x.0.1) _ x.2 in
     let list = ok_steps (list_in y.0.1) _ y.2 in
@@ -93,7 +92,7 @@ parts_found section.Travel line e =
       subst (IsNumberList y.0.1) any.0 (read-list y.0.1 list.0 list.1),
       any.1,
     )
-parts_found section.Words line e =
+parts_found Section.Words line e =
     let n = ok_steps (number_or_cause line) _ e in
     let word = ok_found (word_or_cause n.0.1) n.2 in (
       n.0.0,
@@ -103,7 +102,7 @@ parts_found section.Words line e =
       read-number line n.0 n.1,
       read-word n.0.1 word.0 word.1,
     )
-parts_found section.Placements line e =
+parts_found Section.Placements line e =
     let x = ok_steps (number_or_cause line) _ e in
     let p = ok_steps (number_or_zero x.0.1) _ x.2 in
     let q = ok_found (number_or_zero p.0.1) p.2 in (
@@ -117,7 +116,7 @@ parts_found section.Placements line e =
       read-may x.0.1 p.0 p.1,
       read-may p.0.1 q.0 q.1,
     )
-parts_found section.Defaults line e =
+parts_found Section.Defaults line e =
     let x = ok_steps (number_or_cause line) _ e in
     let y = ok_found (number_or_cause x.0.1) x.2 in (
       x.0.0,
@@ -125,11 +124,11 @@ parts_found section.Defaults line e =
       y.0.1,
       number_then (read-number line x.0 x.1) (number_then (read-number x.0.1 y.0 y.1) no_number),
     )
-parts_found section.Conditions line e =
+parts_found Section.Conditions line e =
     let n = ok_steps (number_or_cause line) _ e in
     let list = ok_found (list_in n.0.1) n.2 in
     (n.0.0, n.0.1, list.0, read-number line n.0 n.1, read-list n.0.1 list.0 list.1)
-parts_found section.Hints line e =
+parts_found Section.Hints line e =
     let h = ok_steps (number_or_cause line) _ e in
     let t = ok_steps (number_or_cause h.0.1) _ h.2 in
     let p = ok_steps (number_or_cause t.0.1) _ t.2 in
@@ -142,15 +141,15 @@ parts_found section.Hints line e =
           (number_then (read-number q.0.1 x.0 x.1) no_number)))),
       refl,
     )
-parts_found section.LongTexts line e = read_first line e
-parts_found section.ShortTexts line e = read_first line e
-parts_found section.Objects line e = read_first line e
-parts_found section.Messages line e = read_first line e
-parts_found section.Classes line e = read_first line e
-parts_found section.Magic line e = read_first line e
+parts_found Section.LongTexts line e = read_first line e
+parts_found Section.ShortTexts line e = read_first line e
+parts_found Section.Objects line e = read_first line e
+parts_found Section.Messages line e = read_first line e
+parts_found Section.Classes line e = read_first line e
+parts_found Section.Magic line e = read_first line e
 
 pub range_found : (s : Section) (line : List ℕ) → reads_in_range s line ≡ true → IsInRange s line
-range_found section.Travel line e =
+range_found Section.Travel line e =
     let x = ok_steps (number_or_cause line) _ e in
     let y = ok_steps (number_or_cause x.0.1) _ x.2 in
     let list = ok_steps (list_in y.0.1) _ y.2 in
@@ -180,7 +179,7 @@ range_found section.Travel line e =
         motions_in_range = each.1;
       },
     )
-range_found section.Conditions line e =
+range_found Section.Conditions line e =
     let n = ok_steps (number_or_cause line) _ e in
     let list = ok_steps (list_in n.0.1) _ n.2 in
     let bit = ok_steps (within 0 20 n.0.0) _ list.2 in
@@ -203,7 +202,7 @@ range_found s line e =
 -- ---- what is there is read
 
 hint_parts_read : (line : List ℕ) (ns : List Number) (last : List ℕ)
-    → BeginsWithNumbers line ns last → length ns ≡ 5 → reads_parts section.Hints line ≡ true
+    → BeginsWithNumbers line ns last → length ns ≡ 5 → reads_parts Section.Hints line ≡ true
 hint_parts_read line ns last no_number count = absurd (omega (arith, count))
 hint_parts_read line ns last (number_then a no_number) count = absurd (omega (arith, count))
 hint_parts_read line ns last (number_then a (number_then b no_number)) count =
@@ -226,7 +225,7 @@ hint_parts_read line ns last (number_then {number = h} {rest = r1} ph
     rw (eh, et, ep, eq, ex) refl
 
 parts_read : (s : Section) (line : List ℕ) → HasParts s line → reads_parts s line ≡ true
-parts_read section.Travel line
+parts_read Section.Travel line
     (place, target, rest, motions, number_then {rest = mid} x (number_then y no_number), list, some)
     =
     let px = number-read line place mid x in
@@ -234,37 +233,37 @@ parts_read section.Travel line
     let pl = list-read rest motions list in
     let any = some-read motions some in
     rw (px, py, pl, any) refl
-parts_read section.Words line (number, rest, word, ignored, begins, goes_on) =
+parts_read Section.Words line (number, rest, word, ignored, begins, goes_on) =
     let n = number-read line number rest begins in
     let w = word-read rest word ignored goes_on in
     rw (n, w) refl
-parts_read section.Placements line (object, r1, first, r2, second, r3, begins, one, two) =
+parts_read Section.Placements line (object, r1, first, r2, second, r3, begins, one, two) =
     let x = number-read line object r1 begins in
     let p = may-read r1 first r2 one in
     let q = may-read r2 second r3 two in
     rw (x, p, q) refl
-parts_read section.Defaults line
+parts_read Section.Defaults line
     (action, message, ignored, number_then {rest = mid} x (number_then y no_number)) =
     let px = number-read line action mid x in
     let py = number-read mid message ignored y in
     rw (px, py) refl
-parts_read section.Conditions line (bit, rest, places, begins, list) =
+parts_read Section.Conditions line (bit, rest, places, begins, list) =
     let n = number-read line bit rest begins in
     let pl = list-read rest places list in
     rw (n, pl) refl
-parts_read section.Hints line (numbers, ignored, begins, five) =
+parts_read Section.Hints line (numbers, ignored, begins, five) =
     hint_parts_read line numbers ignored begins five
-parts_read section.LongTexts line (number, rest, begins) =
+parts_read Section.LongTexts line (number, rest, begins) =
     ap is_ok (number-read line number rest begins)
-parts_read section.ShortTexts line (number, rest, begins) =
+parts_read Section.ShortTexts line (number, rest, begins) =
     ap is_ok (number-read line number rest begins)
-parts_read section.Objects line (number, rest, begins) =
+parts_read Section.Objects line (number, rest, begins) =
     ap is_ok (number-read line number rest begins)
-parts_read section.Messages line (number, rest, begins) =
+parts_read Section.Messages line (number, rest, begins) =
     ap is_ok (number-read line number rest begins)
-parts_read section.Classes line (number, rest, begins) =
+parts_read Section.Classes line (number, rest, begins) =
     ap is_ok (number-read line number rest begins)
-parts_read section.Magic line (number, rest, begins) =
+parts_read Section.Magic line (number, rest, begins) =
     ap is_ok (number-read line number rest begins)
 
 pub parts_missing : (s : Section) (line : List ℕ) → reads_parts s line ≡ false
@@ -272,10 +271,10 @@ pub parts_missing : (s : Section) (line : List ℕ) → reads_parts s line ≡ f
 parts_missing s line e parts = absurd (false≢true (sym e ∙ parts_read s line parts))
 
 way_range_read : (line : List ℕ) (place : ℕ) (going : Going) → IsWayRow line place going
-    → reads_in_range section.Travel line ≡ true
+    → reads_in_range Section.Travel line ≡ true
 way_range_read line place going is = at is.numbers where
   at : BeginsWithNumbers line (Natural place ∷ Natural going.target ∷ []) is.rest
-      → reads_in_range section.Travel line ≡ true
+      → reads_in_range Section.Travel line ≡ true
   at (number_then {rest = after_place} x (number_then y no_number)) =
       let px = number-read line (Natural place) after_place x in
       let py = number-read after_place (Natural going.target) is.rest y in
@@ -289,8 +288,8 @@ way_range_read line place going is = at is.numbers where
       rw (px, py, list, any, from, to, all) refl
 
 range_read : (s : Section) (line : List ℕ) → IsInRange s line → reads_in_range s line ≡ true
-range_read section.Travel line (place, going, is) = way_range_read line place going is
-range_read section.Conditions line (bit, places, is) =
+range_read Section.Travel line (place, going, is) = way_range_read line place going is
+range_read Section.Conditions line (bit, places, is) =
     let n = number-read line (Natural bit) is.rest is.number in
     let list = list-read is.rest (map Natural places) is.has_places in
     let range = within-read 0 20 bit is.bit_in_range in

@@ -16,7 +16,6 @@ use Rattle.data_rows.specs.declared.error.Cause.{Cause}
 use Rattle.data_rows.specs.declared.error.BindingFlaw.TheVariants.{Malformed, BadValue}
 use Rattle.data_rows.specs.declared.error.Cause.TheVariants.{BadBinding, UnknownRole, OutOfRange}
 use Rattle.data_rows.specs.declared.error.Section.{Section}
-use Rattle.data_rows.specs.declared.error.Section.TheVariants as section
 use Rattle.data_rows.specs.declared.number.Number.{Number}
 use Rattle.data_rows.specs.declared.number.Number.TheVariants.{Natural, Negative}
 use Rattle.data_rows.specs.declared.position.Position.{Position}
@@ -221,21 +220,21 @@ placed_fine line =
     record { first = in_first.1; low = in_second.0; high = in_second.1 }))))))
 
 entry_fine : (s : Section) (line : List ℕ) → IfOk (entry_in s line) StandsRight
-entry_fine section.LongTexts line = read_on StandsRight (text_line 1 300 line) _ (λ row. tt)
-entry_fine section.ShortTexts line = read_on StandsRight (text_line 1 300 line) _ (λ row. tt)
-entry_fine section.Travel line = read_on StandsRight (way_row line) _ (λ row. tt)
-entry_fine section.Words line = read_on StandsRight (word_row line) _ (λ row. tt)
-entry_fine section.Objects line = read_on StandsRight (object_line line) _ (λ row. tt)
-entry_fine section.Messages line = read_on StandsRight (text_line 1 499 line) _ (λ row. tt)
-entry_fine section.Placements line =
+entry_fine Section.LongTexts line = read_on StandsRight (text_line 1 300 line) _ (λ row. tt)
+entry_fine Section.ShortTexts line = read_on StandsRight (text_line 1 300 line) _ (λ row. tt)
+entry_fine Section.Travel line = read_on StandsRight (way_row line) _ (λ row. tt)
+entry_fine Section.Words line = read_on StandsRight (word_row line) _ (λ row. tt)
+entry_fine Section.Objects line = read_on StandsRight (object_line line) _ (λ row. tt)
+entry_fine Section.Messages line = read_on StandsRight (text_line 1 499 line) _ (λ row. tt)
+entry_fine Section.Placements line =
     read_then (λ row. IsPlacementInRange row.1) StandsRight (placement_row line) _
     (placed_fine line)
     (λ row fine. fine)
-entry_fine section.Defaults line = read_on StandsRight (default_row line) _ (λ row. tt)
-entry_fine section.Conditions line = read_on StandsRight (condition_row line) _ (λ row. tt)
-entry_fine section.Classes line = read_on StandsRight (text_line 0 9999 line) _ (λ row. tt)
-entry_fine section.Hints line = read_on StandsRight (hint_row line) _ (λ row. tt)
-entry_fine section.Magic line = read_on StandsRight (text_line 1 499 line) _ (λ row. tt)
+entry_fine Section.Defaults line = read_on StandsRight (default_row line) _ (λ row. tt)
+entry_fine Section.Conditions line = read_on StandsRight (condition_row line) _ (λ row. tt)
+entry_fine Section.Classes line = read_on StandsRight (text_line 0 9999 line) _ (λ row. tt)
+entry_fine Section.Hints line = read_on StandsRight (hint_row line) _ (λ row. tt)
+entry_fine Section.Magic line = read_on StandsRight (text_line 1 499 line) _ (λ row. tt)
 
 here_fine : (position : Position) (line : List ℕ) → Each StandsRight (entry_here position line)
 here_fine Outside line = tt

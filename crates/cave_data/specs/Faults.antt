@@ -4,7 +4,6 @@ use Rattle.std.specs.Prelude.{None, is_some, ◌++◌}
 use Rattle.data_rows.specs.declared.error.Cause.{Cause}
 use Rattle.data_rows.specs.declared.error.Cause.TheVariants.{Memory, BadBinding, NoEnd}
 use Rattle.data_rows.specs.declared.error.FaultSite.{FaultSite}
-use Rattle.data_rows.specs.declared.error.FaultSite.TheVariants as site
 use Rattle.data_rows.specs.declared.error.CaveError.{CaveError}
 use Rattle.std.specs.Option.{option_or}
 use Rattle.std.specs.Result.{result_err}
@@ -23,7 +22,7 @@ use Rattle.cave_data.specs.Database.{AreValidTogether}
 
 -- out of memory, for which no line is at fault
 abbrev pub no_memory : CaveError
-no_memory = record { cause = Memory; line = 0; site = site.Database }
+no_memory = record { cause = Memory; line = 0; site = FaultSite.Database }
 
 -- what is reported is this fault, or out of memory
 abbrev pub FaultIs : CaveError → Option CaveError → Type 0

@@ -7,7 +7,6 @@ use Rattle.std.specs.FinMap.{get}
 use Rattle.base_lines.specs.Limits.{MAX_INPUT_BYTES}
 use Rattle.data_rows.specs.declared.error.Cause.TheVariants.{TooLarge}
 use Rattle.data_rows.specs.declared.error.FaultSite.{FaultSite}
-use Rattle.data_rows.specs.declared.error.FaultSite.TheVariants as site
 use Rattle.data_rows.specs.declared.error.CaveError.{CaveError}
 use Rattle.data_rows.specs.declared.binding.Key.TheVariants.{RoleKey, PlaceKey, LettersKey}
 use Rattle.cave_data.specs.CaveView.{CaveView}
@@ -57,8 +56,8 @@ too_large_input site = record { cause = TooLarge; line = 0; site = site }
 -- the fault of a size, which is found before any memory is requested
 abbrev pub size_fault : List ℕ → List ℕ → Option CaveError
 size_fault database bindings =
-    if nat_lt MAX_INPUT_BYTES (length database) then Some (too_large_input site.Database)
-    else (if nat_lt MAX_INPUT_BYTES (length bindings) then Some (too_large_input site.Bindings)
+    if nat_lt MAX_INPUT_BYTES (length database) then Some (too_large_input FaultSite.Database)
+    else (if nat_lt MAX_INPUT_BYTES (length bindings) then Some (too_large_input FaultSite.Bindings)
     else None)
 
 -- the first fault: that of a size, otherwise of a line of the database, otherwise of a line of the

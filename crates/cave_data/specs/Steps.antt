@@ -22,7 +22,6 @@ use Rattle.cave_data.specs.Texts.{line_text, with_key, object_after, object_afte
 use Rattle.cave_data.specs.Tables.{TextsSoFar, with_line, with_way, mark_bit}
 use Rattle.cave_data.specs.Limits.{MAX_WAYS, MAX_WORDS, MAX_CLASSES}
 use Rattle.std.specs.List.{All, filter_map}
-use Rattle.data_rows.specs.declared.error.Section.TheVariants as section
 use Rattle.data_rows.specs.declared.number.Number.{Number}
 use Rattle.data_rows.specs.declared.number.Number.TheVariants.{Natural, Negative}
 use Rattle.data_rows.specs.RowParts.{BeginsWithField, BeginsWithNumber, BeginsWithNumbers}
@@ -41,7 +40,6 @@ use Rattle.data_rows.specs.BindingLines.{binding_row}
 use Rattle.std.specs.Option.{option_or}
 use Rattle.std.specs.Result.{result_err}
 use Rattle.data_rows.specs.declared.error.FaultSite.{FaultSite}
-use Rattle.data_rows.specs.declared.error.FaultSite.TheVariants as site
 use Rattle.data_rows.specs.declared.error.CaveError.{CaveError}
 
 abbrev pub shape_here : Position → List ℕ → Option Cause
@@ -77,9 +75,9 @@ line_cause before line =
     (first_limit (entries before) (entry_at (position_after before) line))
 
 abbrev pub site_of_fault : Position → FaultSite
-site_of_fault Outside = site.Database
-site_of_fault (Inside s) = site.Section s
-site_of_fault After = site.Database
+site_of_fault Outside = FaultSite.Database
+site_of_fault (Inside s) = FaultSite.Section s
+site_of_fault After = FaultSite.Database
 
 -- a fault of the line after these lines
 abbrev pub fault_after : List (List ℕ) → Cause → CaveError
@@ -195,56 +193,56 @@ tables_of rows = fold with_entry no_tables rows
 
 -- the numbers and words of a row of the section are there, in range or not
 abbrev pub HasParts : Section → List ℕ → Type 0
-HasParts section.Travel line =
+HasParts Section.Travel line =
     (place : Number) × (target : Number) × (rest : List ℕ) × (motions : List Number)
     × BeginsWithNumbers line (place ∷ target ∷ []) rest × IsNumberList rest motions
     × (1 ≤ length motions)
-HasParts section.Words line =
+HasParts Section.Words line =
     (number : Number) × (rest : List ℕ) × (word : List ℕ) × (ignored : List ℕ)
     × BeginsWithNumber line number rest × BeginsWithField rest word ignored
-HasParts section.Placements line =
+HasParts Section.Placements line =
     (object : Number) × (after_object : List ℕ) × (first : Number) × (after_first : List ℕ)
     × (second : Number) × (ignored : List ℕ) × BeginsWithNumber line object after_object
     × MayBeginWithNumber after_object first after_first
     × MayBeginWithNumber after_first second ignored
-HasParts section.Defaults line =
+HasParts Section.Defaults line =
     (action : Number) × (message : Number) × (ignored : List ℕ)
     × BeginsWithNumbers line (action ∷ message ∷ []) ignored
-HasParts section.Conditions line =
+HasParts Section.Conditions line =
     (bit : Number) × (rest : List ℕ) × (places : List Number) × BeginsWithNumber line bit rest
     × IsNumberList rest places
-HasParts section.Hints line =
+HasParts Section.Hints line =
     (numbers : List Number) × (ignored : List ℕ) × BeginsWithNumbers line numbers ignored
     × (length numbers ≡ 5)
 HasParts s line = (number : Number) × (rest : List ℕ) × BeginsWithNumber line number rest
 
 -- the line is a row of the section, however long its lists are
 abbrev pub IsInRange : Section → List ℕ → Type 0
-IsInRange section.Travel line = (place : ℕ) × (going : Going) × IsWayRow line place going
-IsInRange section.Conditions line =
+IsInRange Section.Travel line = (place : ℕ) × (going : Going) × IsWayRow line place going
+IsInRange Section.Conditions line =
     (bit : ℕ) × (places : List ℕ) × IsConditionRow line bit places
 IsInRange s line = (row : Entry) × IsRow s line row
 
 -- the line is a prop's, and no line before it is an object's
 abbrev pub LacksObject : List Entry → Section → List ℕ → Type 0
-LacksObject before section.Objects line =
+LacksObject before Section.Objects line =
     (row : TextLine) × IsTextRow IsOfProp line row
     × All (λ earlier. ¬ IsOfObject earlier.number) (filter_map object_line_of before)
 LacksObject before s line = ⊥
 
 -- the line has more than 40 motions or places
 abbrev pub HasLongList : Section → List ℕ → Type 0
-HasLongList section.Travel line =
+HasLongList Section.Travel line =
     (place : ℕ) × (going : Going) × IsWayRow line place going × (40 < length going.motions)
-HasLongList section.Conditions line =
+HasLongList Section.Conditions line =
     (bit : ℕ) × (places : List ℕ) × IsConditionRow line bit places × (40 < length places)
 HasLongList s line = ⊥
 
 -- the rows before are already all that the section may have
 abbrev pub IsFull : List Entry → Section → Type 0
-IsFull before section.Travel = MAX_WAYS ≤ length (filter_map way_of before)
-IsFull before section.Words = MAX_WORDS ≤ length (filter_map word_entry_of before)
-IsFull before section.Classes = MAX_CLASSES ≤ length (filter_map class_line_of before)
+IsFull before Section.Travel = MAX_WAYS ≤ length (filter_map way_of before)
+IsFull before Section.Words = MAX_WORDS ≤ length (filter_map word_entry_of before)
+IsFull before Section.Classes = MAX_CLASSES ≤ length (filter_map class_line_of before)
 IsFull before s = ⊥
 
 -- this is wrong with the line inside the section after these rows, and no lower cause applies

@@ -12,7 +12,6 @@ use Rattle.cave_replay.proofs.Openings.{IsGame-from_no_fault}
 use Rattle.cave_play.specs.Stages.{large_seed, lines_fault, log_fault, or_too_many}
 use Rattle.cave_play.specs.declared.fault.LogFault.TheVariants as log
 use Rattle.cave_play.specs.declared.fault.PlayFault.{PlayFault}
-use Rattle.cave_play.specs.declared.fault.PlayFault.TheVariants as fault
 
 -- ---- a session can hold an accepted log
 
@@ -21,8 +20,8 @@ unrefused : (test : Bool) (found : PlayFault) (rest : Option PlayFault)
 unrefused true found rest free = cc
 unrefused false found rest free = free
 
-opened : (many great : Bool) → (if many then Some (fault.Log log.Full) else None) ≡ None
-    → (if great then Some fault.Seed else None) ≡ None
+opened : (many great : Bool) → (if many then Some (PlayFault.Log log.Full) else None) ≡ None
+    → (if great then Some PlayFault.Seed else None) ≡ None
     → (if many then Some session.LogFull else (if great then Some session.BadSeed else None)) ≡ None
 opened true great few fits = cc
 opened false true few fits = cc
@@ -39,6 +38,6 @@ pub IsGame-accepted : (bytes : List ℕ) (seed : ℕ) → log_fault bytes ≡ No
     → IsGame (game_of seed (lines bytes))
 unfolding log_fault lines_fault
 IsGame-accepted bytes seed free fits =
-    let valid = unrefused (nat_lt MAX_INPUT_BYTES (length bytes)) (fault.Log log.TooLarge) _ free in
+    let valid = unrefused (nat_lt MAX_INPUT_BYTES (length bytes)) (PlayFault.Log log.TooLarge) _ free in
     IsGame-from_no_fault 1 (lines bytes) seed
     (opened_after (first_bad_line (lines bytes) 1) (lines bytes) seed valid fits)

@@ -4,7 +4,6 @@ use Rattle.std.proofs.Common.{[], ◌∷◌, subst, inl, inr, ◌++◌, Result, 
 use Rattle.std.specs.Str.Lines.{lines}
 use Rattle.cave_data.specs.CaveView.{CaveView}
 use Rattle.play_command.specs.declared.views.EditView.{EditView}
-use Rattle.play_command.specs.declared.views.EditView.TheVariants as asked
 use Rattle.play_edits.specs.Outcome.{ItemOutcome}
 use Rattle.replay_edits.specs.Edit.{Game, game_of}
 use Rattle.play_edits.specs.Ends.{EndsOfLog, log_ends, ends_after_items, ended_view}
@@ -14,7 +13,6 @@ use Rattle.cave_play.specs.Stages.{first_decided, strict_stage, Stage, log_stage
 use Rattle.cave_play.specs.Stages.{size_stage, Judges}
 use Rattle.play_edits.specs.Views.{IsViewOf, IsMadeOf, IsSideReportOf}
 use Rattle.cave_play.specs.declared.fault.PlayFault.{PlayFault}
-use Rattle.cave_play.specs.declared.fault.PlayFault.TheVariants as fault
 use Rattle.replay_scripts.specs.Guards.{script_by}
 use Rattle.play_edits.specs.Edits.{ending_refusal}
 use Rattle.cave_play.proofs.StageLemmas.{first_decided-one, IsFoundIn-first, IsFoundIn-later}
@@ -37,7 +35,7 @@ pub first_decided-strict : (strict : Bool) (game : Game) (guarded : Bool) (scrip
     → first_decided (strict_stage strict game guarded script ∷ []) ≡ None
 first_decided-strict strict game guarded script items spelled none =
     first_decided-one (strict_stage strict game guarded script)
-    (ap (fault_of_items strict game) spelled ∙ ap (option_map fault.Refused) none)
+    (ap (fault_of_items strict game) spelled ∙ ap (option_map PlayFault.Refused) none)
 
 -- ---- the size of what is printed
 
@@ -54,20 +52,20 @@ size_printed : (view : EditView) (cave : CaveView) (game : Game) (guarded : Bool
     → output ≡ ended_view view (ends_after_items items game ends) text
     → size_fault view (length output)
     ≡ size_fault view (bytes_to_read view guarded items game ends)
-size_printed asked.Log cave game guarded items outcomes ends text output written is =
-    size_read asked.Log (ends_after_items items game ends) text _ output written.written is
-size_printed asked.Undo cave game guarded items outcomes ends text output written is =
-    size_read asked.Undo (ends_after_items items game ends) text _ output written.written is
-size_printed asked.Guarded cave game guarded items outcomes ends text output written is =
-    size_read asked.Guarded (ends_after_items items game ends) text _ output written.written is
-size_printed asked.Transcript cave game guarded items outcomes ends text output written is = refl
-size_printed asked.Play cave game guarded items outcomes ends text output written is = refl
-size_printed asked.Reports cave game guarded items outcomes ends text output written is = refl
-size_printed asked.Table cave game guarded items outcomes ends text output written is = refl
-size_printed asked.Steps cave game guarded items outcomes ends text output written is = refl
-size_printed asked.Walk cave game guarded items outcomes ends text output written is = refl
-size_printed asked.Score cave game guarded items outcomes ends text output written is = refl
-size_printed asked.FinalState cave game guarded items outcomes ends text output written is = refl
+size_printed EditView.Log cave game guarded items outcomes ends text output written is =
+    size_read EditView.Log (ends_after_items items game ends) text _ output written.written is
+size_printed EditView.Undo cave game guarded items outcomes ends text output written is =
+    size_read EditView.Undo (ends_after_items items game ends) text _ output written.written is
+size_printed EditView.Guarded cave game guarded items outcomes ends text output written is =
+    size_read EditView.Guarded (ends_after_items items game ends) text _ output written.written is
+size_printed EditView.Transcript cave game guarded items outcomes ends text output written is = refl
+size_printed EditView.Play cave game guarded items outcomes ends text output written is = refl
+size_printed EditView.Reports cave game guarded items outcomes ends text output written is = refl
+size_printed EditView.Table cave game guarded items outcomes ends text output written is = refl
+size_printed EditView.Steps cave game guarded items outcomes ends text output written is = refl
+size_printed EditView.Walk cave game guarded items outcomes ends text output written is = refl
+size_printed EditView.Score cave game guarded items outcomes ends text output written is = refl
+size_printed EditView.FinalState cave game guarded items outcomes ends text output written is = refl
 
 -- ---- what a run makes
 

@@ -18,7 +18,6 @@ use Rattle.data_rows.specs.declared.error.FaultSite.TheVariants as site
 use Rattle.base_lines.specs.declared.line.LineFault.{LineFault}
 use Rattle.cave_replay.specs.Opening.{open_fault, first_bad_line, or_game_fault}
 use Rattle.cave_replay.specs.declared.fault.OpenFault.{OpenFault}
-use Rattle.cave_replay.specs.declared.fault.OpenFault.TheVariants as session
 use Rattle.base_lines.specs.Limits.{MAX_SEED, MAX_EVERY, MAX_LOG_LINES, MAX_INPUT_BYTES}
 use Rattle.replay_scripts.specs.Guards.{script_by}
 use Rattle.replay_scripts.specs.Script.{Applied}
@@ -33,10 +32,8 @@ use Rattle.cave_play.specs.Stages.{Judges, IsFoundAt, IsFoundIn, reading_stage, 
 use Rattle.cave_play.specs.Stages.{first_decided, cave_stages, known_stage, log_stage, script_stage}
 use Rattle.cave_play.specs.Sources.{IsUnread}
 use Rattle.play_command.specs.declared.line.Input.{Input}
-use Rattle.play_command.specs.declared.line.Input.TheVariants as input
 use Rattle.cave_play.specs.declared.fault.LogFault.TheVariants as log
 use Rattle.cave_play.specs.declared.fault.PlayFault.{PlayFault}
-use Rattle.cave_play.specs.declared.fault.PlayFault.TheVariants as fault
 
 -- ---- the size of an input
 
@@ -54,23 +51,23 @@ input_size_fault-fits from bytes fits = rw (le-ltb MAX_INPUT_BYTES (length bytes
 
 -- an input that couldn't be read
 pub IsFoundIn-database : (database bindings : List ℕ) (found : PlayFault)
-    → IsUnread input.Cave database found → IsFoundIn (cave_stages database bindings) found
+    → IsUnread Input.Cave database found → IsFoundIn (cave_stages database bindings) found
 IsFoundIn-database database bindings found (inl outside) = inl (inl outside)
 IsFoundIn-database database bindings found (inr (large, is)) =
-    inl (inr (input_size_fault-large input.Cave database found large is))
+    inl (inr (input_size_fault-large Input.Cave database found large is))
 
 pub IsFoundIn-bindings : (database bindings : List ℕ) (found : PlayFault)
-    → length database ≤ MAX_INPUT_BYTES → IsUnread input.Bindings bindings found
+    → length database ≤ MAX_INPUT_BYTES → IsUnread Input.Bindings bindings found
     → IsFoundIn (cave_stages database bindings) found
 IsFoundIn-bindings database bindings found fits (inl outside) =
-    inr (input_size_fault-fits input.Cave database fits, inl (inl outside))
+    inr (input_size_fault-fits Input.Cave database fits, inl (inl outside))
 IsFoundIn-bindings database bindings found fits (inr (large, is)) =
-    let here = input_size_fault-large input.Bindings bindings found large is in
-    inr (input_size_fault-fits input.Cave database fits, inl (inr here))
+    let here = input_size_fault-large Input.Bindings bindings found large is in
+    inr (input_size_fault-fits Input.Cave database fits, inl (inr here))
 
 judged_whole : (database bindings : List ℕ) (large larger : Bool) (lines_fault : Option CaveError)
-    → option_or (if large then Some (too_large input.Cave) else None)
-    (option_or (if larger then Some (too_large input.Bindings) else None)
+    → option_or (if large then Some (too_large Input.Cave) else None)
+    (option_or (if larger then Some (too_large Input.Bindings) else None)
     (option_or (option_map (cave_refusal database bindings)
     (option_or (if large then Some (cave_too_large site.Database)
     else (if larger then Some (cave_too_large site.Bindings) else None)) lines_fault)) None))
@@ -105,9 +102,9 @@ cave_stages-read database bindings cave reads =
 -- which fault a cave was refused for
 pub inputs_fault-some : (database bindings : List ℕ) (error : CaveError) (found : PlayFault)
     → FaultIs error (cave_fault database bindings)
-    → (error.cause ≡ cause.Memory → found ≡ fault.Memory)
-    → (found ≡ fault.Memory) ⊎ (found ≡ cave_refusal database bindings error)
-    → (found ≡ fault.Memory) ⊎ (inputs_fault database bindings ≡ Some found)
+    → (error.cause ≡ cause.Memory → found ≡ PlayFault.Memory)
+    → (found ≡ PlayFault.Memory) ⊎ (found ≡ cave_refusal database bindings error)
+    → (found ≡ PlayFault.Memory) ⊎ (inputs_fault database bindings ≡ Some found)
 inputs_fault-some database bindings error found (inl none) memory told =
     inl (memory (ap (λ (e : CaveError). e.cause) none))
 inputs_fault-some database bindings error found (inr is) memory (inl refused) = inl refused
@@ -115,20 +112,20 @@ inputs_fault-some database bindings error found (inr is) memory (inr refusal) =
     inr (ap (option_map (cave_refusal database bindings)) is ∙ ap Some (sym refusal))
 
 found_of_inputs : (database bindings : List ℕ) (found : PlayFault)
-    → (found ≡ fault.Memory) ⊎ (inputs_fault database bindings ≡ Some found)
+    → (found ≡ PlayFault.Memory) ⊎ (inputs_fault database bindings ≡ Some found)
     → IsFoundAt (judging_stage (inputs_fault database bindings)) found
 found_of_inputs database bindings found (inl memory) = rw memory (inl tt)
 found_of_inputs database bindings found (inr is) = inr is
 
 pub IsFoundIn-inputs : (database bindings : List ℕ) (found : PlayFault)
     → length database ≤ MAX_INPUT_BYTES → length bindings ≤ MAX_INPUT_BYTES
-    → (found ≡ fault.Memory) ⊎ (inputs_fault database bindings ≡ Some found)
+    → (found ≡ PlayFault.Memory) ⊎ (inputs_fault database bindings ≡ Some found)
     → IsFoundIn (cave_stages database bindings) found
 IsFoundIn-inputs database bindings found fits small refused =
     inr (
-      input_size_fault-fits input.Cave database fits,
+      input_size_fault-fits Input.Cave database fits,
       inr (
-        input_size_fault-fits input.Bindings bindings small,
+        input_size_fault-fits Input.Bindings bindings small,
         inl (found_of_inputs database bindings found refused),
       ),
     )
@@ -136,20 +133,20 @@ IsFoundIn-inputs database bindings found fits small refused =
 -- ---- known doubts
 
 pub IsFoundIn-known : (bytes : List ℕ) (found : PlayFault)
-    → IsUnread input.Known bytes found → IsFoundIn (known_stage bytes ∷ []) found
+    → IsUnread Input.Known bytes found → IsFoundIn (known_stage bytes ∷ []) found
 IsFoundIn-known bytes found (inl outside) = inl (inl outside)
 IsFoundIn-known bytes found (inr (large, is)) =
-    inl (inr (input_size_fault-large input.Known bytes found large is))
+    inl (inr (input_size_fault-large Input.Known bytes found large is))
 
 pub first_decided-known : (bytes : List ℕ) → length bytes ≤ MAX_INPUT_BYTES
     → first_decided (known_stage bytes ∷ []) ≡ None
 first_decided-known bytes fits =
-    first_decided-one (known_stage bytes) (input_size_fault-fits input.Known bytes fits)
+    first_decided-one (known_stage bytes) (input_size_fault-fits Input.Known bytes fits)
 
 -- ---- a log
 
 pub IsFoundIn-log : (bytes : List ℕ) (found : PlayFault)
-    → IsUnread input.Log bytes found → IsFoundIn (log_stage bytes ∷ []) found
+    → IsUnread Input.Log bytes found → IsFoundIn (log_stage bytes ∷ []) found
 unfolding log_fault
 IsFoundIn-log bytes found (inl outside) = inl (inl outside)
 IsFoundIn-log bytes found (inr (large, is)) =
@@ -168,24 +165,24 @@ pub Judges-log : {X : Type 0} (P : List (List ℕ) → X → Type 0) (bytes text
 Judges-log P bytes text r is fits judged =
     let here =
     subst (λ t. Judges (judging_stage (lines_fault (lines t)) ∷ []) (P (lines t)) r) is judged in
-    Judges-read input.Log (log_fault bytes) (P (lines bytes)) r
+    Judges-read Input.Log (log_fault bytes) (P (lines bytes)) r
     (subst (λ d. Judges (judging_stage d ∷ []) (P (lines bytes)) r)
     (sym (log_fault-lines bytes fits))
     here)
 
 -- what is wrong with a game whose seed fits is wrong with its log
 too_many_or_seed : (many great : Bool) (found : OpenFault)
-    → (if great then Some fault.Seed else None) ≡ None
-    → (if many then Some session.LogFull else (if great then Some session.BadSeed else None))
+    → (if great then Some PlayFault.Seed else None) ≡ None
+    → (if many then Some OpenFault.LogFull else (if great then Some OpenFault.BadSeed else None))
     ≡ Some found
-    → (if many then Some (fault.Log log.Full) else None) ≡ Some (opening_fault found)
+    → (if many then Some (PlayFault.Log log.Full) else None) ≡ Some (opening_fault found)
 too_many_or_seed true great found fits is = ap (option_map opening_fault) is
 too_many_or_seed false true found fits is = absurd (cc)
 too_many_or_seed false false found fits is = cc
 
 too_many_or_none : (many great : Bool)
-    → (if many then Some session.LogFull else (if great then Some session.BadSeed else None)) ≡ None
-    → (if many then Some (fault.Log log.Full) else None) ≡ None
+    → (if many then Some OpenFault.LogFull else (if great then Some OpenFault.BadSeed else None)) ≡ None
+    → (if many then Some (PlayFault.Log log.Full) else None) ≡ None
 too_many_or_none true great is = cc
 too_many_or_none false great is = refl
 
@@ -203,8 +200,8 @@ or_game_fault-none None game seed is =
 or_game_fault-none (Some (number, flaw)) game seed is = cc
 
 -- apart from the distance of checkpoints, a session is refused for its game
-by_game : (far : Bool) (other : Option OpenFault) → (if far then Some fault.Every else None) ≡ None
-    → (if far then Some session.BadEvery else other) ≡ other
+by_game : (far : Bool) (other : Option OpenFault) → (if far then Some PlayFault.Every else None) ≡ None
+    → (if far then Some OpenFault.BadEvery else other) ≡ other
 by_game true other fits = absurd (cc)
 by_game false other fits = refl
 
@@ -217,13 +214,13 @@ open_fault-fits every game seed fits =
 -- a session that was opened has no fault
 opened_without : {S : Type 0} (decided : Option OpenFault) (s : S) (r : Result S OpenFault)
     → r ≡ Ok s
-    → MatchOption decided (IfErr r (λ f. f ≡ session.Memory)) (λ f. r ≡ Err f) → decided ≡ None
+    → MatchOption decided (IfErr r (λ f. f ≡ OpenFault.Memory)) (λ f. r ≡ Err f) → decided ≡ None
 opened_without None s r is h = refl
 opened_without (Some first) s r is h = cc
 
 pub lines_fault-opened : {S : Type 0} (every : ℕ) (game : List (List ℕ)) (seed : ℕ) (s : S)
     (r : Result S OpenFault) → every_fault every ≡ None → r ≡ Ok s
-    → MatchOption (open_fault every game seed) (IfErr r (λ f. f ≡ session.Memory)) (λ f. r ≡ Err f)
+    → MatchOption (open_fault every game seed) (IfErr r (λ f. f ≡ OpenFault.Memory)) (λ f. r ≡ Err f)
     → lines_fault game ≡ None
 unfolding lines_fault
 lines_fault-opened every game seed s r near is h =
@@ -233,9 +230,9 @@ lines_fault-opened every game seed s r near is h =
 -- which fault a session was refused for
 refused_for : {S : Type 0} (decided : Option OpenFault) (found : OpenFault) (r : Result S OpenFault)
     → r ≡ Err found
-    → MatchOption decided (IfErr r (λ f. f ≡ session.Memory)) (λ f. r ≡ Err f)
-    → (found ≡ session.Memory) ⊎ (decided ≡ Some found)
-refused_for None found r is h = inl (IfErr-at_err (λ f. f ≡ session.Memory) is h)
+    → MatchOption decided (IfErr r (λ f. f ≡ OpenFault.Memory)) (λ f. r ≡ Err f)
+    → (found ≡ OpenFault.Memory) ⊎ (decided ≡ Some found)
+refused_for None found r is h = inl (IfErr-at_err (λ f. f ≡ OpenFault.Memory) is h)
 refused_for (Some first) found r is h = inr (cc)
 
 lines_fault-some : (every : ℕ) (game : List (List ℕ)) (seed : ℕ) (found : OpenFault)
@@ -248,7 +245,7 @@ lines_fault-some every game seed found fits near is =
 
 found_by : (every : ℕ) (game : List (List ℕ)) (seed : ℕ) (found : OpenFault)
     → large_seed seed ≡ None → every_fault every ≡ None
-    → (found ≡ session.Memory) ⊎ (open_fault every game seed ≡ Some found)
+    → (found ≡ OpenFault.Memory) ⊎ (open_fault every game seed ≡ Some found)
     → IsFoundIn (judging_stage (lines_fault game) ∷ []) (opening_fault found)
 found_by every game seed found fits near (inl memory) = rw memory (inl (inl tt))
 found_by every game seed found fits near (inr is) =
@@ -258,7 +255,7 @@ found_by every game seed found fits near (inr is) =
 pub IsFoundIn-opened : {S : Type 0} (every : ℕ) (game : List (List ℕ)) (seed : ℕ)
     (found : OpenFault) (r : Result S OpenFault) → large_seed seed ≡ None → every_fault every ≡ None
     → r ≡ Err found
-    → MatchOption (open_fault every game seed) (IfErr r (λ f. f ≡ session.Memory)) (λ f. r ≡ Err f)
+    → MatchOption (open_fault every game seed) (IfErr r (λ f. f ≡ OpenFault.Memory)) (λ f. r ≡ Err f)
     → IsFoundIn (judging_stage (lines_fault game) ∷ []) (opening_fault found)
 IsFoundIn-opened every game seed found r fits near is h =
     found_by every game seed found fits near (refused_for _ found r is h)
@@ -281,7 +278,7 @@ lines_fault-refused game seed found fits is =
 -- a log that wasn't watched to its end
 pub IsFoundIn-watched : (game : List (List ℕ)) (seed : ℕ) (found : OpenFault)
     → large_seed seed ≡ None
-    → (found ≡ session.Memory) ⊎ (or_game_fault (first_bad_line game 1) game seed ≡ Some found)
+    → (found ≡ OpenFault.Memory) ⊎ (or_game_fault (first_bad_line game 1) game seed ≡ Some found)
     → IsFoundIn (judging_stage (lines_fault game) ∷ []) (opening_fault found)
 IsFoundIn-watched game seed found fits (inl memory) = rw memory (inl (inl tt))
 IsFoundIn-watched game seed found fits (inr is) =
@@ -290,7 +287,7 @@ IsFoundIn-watched game seed found fits (inr is) =
 -- ---- a script
 
 pub IsFoundIn-script : (guarded : Bool) (bytes : List ℕ) (found : PlayFault)
-    → IsUnread input.Script bytes found → IsFoundIn (script_stage guarded bytes ∷ []) found
+    → IsUnread Input.Script bytes found → IsFoundIn (script_stage guarded bytes ∷ []) found
 unfolding script_fault
 IsFoundIn-script guarded bytes found (inl outside) = inl (inl outside)
 IsFoundIn-script guarded bytes found (inr (large, is)) =
@@ -311,7 +308,7 @@ script_fault-none guarded bytes items fits is =
 -- a script that was refused
 refused_by : (answer : Result (List Applied) ScriptRefusal) (found : ScriptRefusal)
     → IsFaultOf found answer
-    → IsFoundAt (reading_stage input.Script (first_malformed answer)) (script_refusal found)
+    → IsFoundAt (reading_stage Input.Script (first_malformed answer)) (script_refusal found)
 refused_by answer Memory is = inl tt
 refused_by answer (Malformed line flaw) is = inr (ap first_malformed is)
 
@@ -322,7 +319,7 @@ pub IsFoundIn-refused : (guarded : Bool) (bytes text : List ℕ) (found : Script
 IsFoundIn-refused guarded bytes text found fits is refused =
     let told = script_refusal found in
     let here =
-    subst (λ t. IsFoundAt (reading_stage input.Script (first_malformed (script_by guarded t))) told)
+    subst (λ t. IsFoundAt (reading_stage Input.Script (first_malformed (script_by guarded t))) told)
     is (refused_by (script_by guarded text) found refused) in
-    inl (subst (λ d. IsFoundAt (reading_stage input.Script d) told)
+    inl (subst (λ d. IsFoundAt (reading_stage Input.Script d) told)
     (sym (script_fault-lines guarded bytes fits)) here)

@@ -10,22 +10,21 @@ use Rattle.cave_play.specs.declared.inputs.OneLog.{OneLog}
 use Rattle.std.specs.Prelude.{if◌then◌else◌}
 use Rattle.cave_play.specs.declared.inputs.Readers.{Readers}
 use Rattle.play_command.specs.declared.line.Input.{Input}
-use Rattle.play_command.specs.declared.line.Input.TheVariants as input
 
 -- ---- the inputs that weren't read
 
-pub after_database : (old mid : Held) → IsTaken input.Cave old mid
+pub after_database : (old mid : Held) → IsTaken Input.Cave old mid
     → without_cave mid ≡ without_cave old
 after_database old mid taken = ap (λ (held : Held). record held { bindings = None }) taken.others
 
-pub after_bindings : (old mid new : Held) → IsTaken input.Cave old mid
-    → IsTaken input.Bindings mid new → without_cave new ≡ without_cave old
+pub after_bindings : (old mid new : Held) → IsTaken Input.Cave old mid
+    → IsTaken Input.Bindings mid new → without_cave new ≡ without_cave old
 after_bindings old mid new first second =
     ap (λ (held : Held). record held { cave = None }) second.others
     ∙ after_database old mid first
 
 -- what one of them says, once others were read
-pub same_bindings : (old mid : Held) (bytes : List ℕ) → IsTaken input.Cave old mid
+pub same_bindings : (old mid : Held) (bytes : List ℕ) → IsTaken Input.Cave old mid
     → Says mid.bindings bytes → Says old.bindings bytes
 same_bindings old mid bytes taken said =
     subst (λ known. Says known bytes) (ap (λ (held : Held). held.bindings) taken.others) said
@@ -34,24 +33,24 @@ pub same_said : (old new : Option (List ℕ)) (bytes : List ℕ) → new ≡ old
     → Says old bytes
 same_said old new bytes same said = subst (λ known. Says known bytes) same said
 
-pub same_script_after_log : (old new : Held) (bytes : List ℕ) → IsTaken input.Log old new
+pub same_script_after_log : (old new : Held) (bytes : List ℕ) → IsTaken Input.Log old new
     → Says new.script bytes → Says old.script bytes
 same_script_after_log old new bytes taken said =
     subst (λ known. Says known bytes) (ap (λ (held : Held). held.script) taken.others) said
 
-pub same_new_log : (old new : Held) (bytes : List ℕ) → IsTaken input.Log old new
+pub same_new_log : (old new : Held) (bytes : List ℕ) → IsTaken Input.Log old new
     → Says new.new_log bytes → Says old.new_log bytes
 same_new_log old new bytes taken said =
     subst (λ known. Says known bytes) (ap (λ (held : Held). held.new_log) taken.others) said
 
 -- two logs were read, and what is known of a cave is as before
-pub same_cave : (old mid new : Held) → IsTaken input.Log old mid → IsTaken input.NewLog mid new
+pub same_cave : (old mid new : Held) → IsTaken Input.Log old mid → IsTaken Input.NewLog mid new
     → new.cave ≡ old.cave
 same_cave old mid new first second =
     ap (λ (held : Held). held.cave) second.others ∙ ap (λ (held : Held). held.cave) first.others
 
-pub same_cave_bindings : (old mid new : Held) → IsTaken input.Log old mid
-    → IsTaken input.NewLog mid new → new.bindings ≡ old.bindings
+pub same_cave_bindings : (old mid new : Held) → IsTaken Input.Log old mid
+    → IsTaken Input.NewLog mid new → new.bindings ≡ old.bindings
 same_cave_bindings old mid new first second =
     ap (λ (held : Held). held.bindings) second.others
     ∙ ap (λ (held : Held). held.bindings) first.others

@@ -8,10 +8,9 @@ use Rattle.cave_play.specs.Stages.{IsOutsideOf, IsFoundIn, Judges, Stage, readin
 use Rattle.cave_play.specs.Stages.{judging_stage, first_decided}
 use Rattle.play_command.specs.declared.line.Input.{Input}
 use Rattle.cave_play.specs.declared.fault.PlayFault.{PlayFault}
-use Rattle.cave_play.specs.declared.fault.PlayFault.TheVariants as fault
 
 -- memory can be refused at any time
-pub IsFoundIn-memory : (stages : List Stage) → IsFoundIn stages fault.Memory
+pub IsFoundIn-memory : (stages : List Stage) → IsFoundIn stages PlayFault.Memory
 IsFoundIn-memory [] = refl
 IsFoundIn-memory (stage ∷ stages) = inl (inl tt)
 
@@ -39,7 +38,7 @@ IsFoundIn-later (stage ∷ stages) later found none there =
 -- what is made after stages that decide no fault, unless memory runs out
 pub Judges-made : {X : Type 0} (stages : List Stage) (P Q : X → Type 0) (r : Result X PlayFault)
     → first_decided stages ≡ None → ((x : X) → Q x → P x)
-    → MatchResult r Q (λ found. found ≡ fault.Memory) → Judges stages P r
+    → MatchResult r Q (λ found. found ≡ PlayFault.Memory) → Judges stages P r
 Judges-made stages P Q (Ok x) none gives made = (none, gives x made)
 Judges-made stages P Q (Err found) none gives memory =
     subst (IsFoundIn stages) (sym memory) (IsFoundIn-memory stages)
@@ -87,23 +86,23 @@ Judges-after decides later P r none judged =
     (first_decided-one (judging_stage decides) none) (λ x is. is) judged
 
 -- if nothing is read, only memory is refused from outside
-pub memory_alone : (found : PlayFault) → IsOutsideOf None found → found ≡ fault.Memory
-memory_alone fault.Memory outside = refl
-memory_alone (fault.Read from) outside = cc
-memory_alone (fault.Cave error clue) outside = absurd outside
-memory_alone (fault.Doubt found) outside = absurd outside
-memory_alone fault.LargeKnown outside = absurd outside
-memory_alone (fault.Unshown count) outside = absurd outside
-memory_alone (fault.Unmapped place) outside = absurd outside
-memory_alone fault.Seed outside = absurd outside
-memory_alone fault.Every outside = absurd outside
-memory_alone (fault.Log refused) outside = absurd outside
-memory_alone (fault.NewLog refused) outside = absurd outside
-memory_alone (fault.Script refused) outside = absurd outside
-memory_alone (fault.Refused refusal) outside = absurd outside
-memory_alone fault.LargeLog outside = absurd outside
-memory_alone fault.LargeScript outside = absurd outside
-memory_alone fault.Write outside = absurd outside
+pub memory_alone : (found : PlayFault) → IsOutsideOf None found → found ≡ PlayFault.Memory
+memory_alone PlayFault.Memory outside = refl
+memory_alone (PlayFault.Read from) outside = cc
+memory_alone (PlayFault.Cave error clue) outside = absurd outside
+memory_alone (PlayFault.Doubt found) outside = absurd outside
+memory_alone PlayFault.LargeKnown outside = absurd outside
+memory_alone (PlayFault.Unshown count) outside = absurd outside
+memory_alone (PlayFault.Unmapped place) outside = absurd outside
+memory_alone PlayFault.Seed outside = absurd outside
+memory_alone PlayFault.Every outside = absurd outside
+memory_alone (PlayFault.Log refused) outside = absurd outside
+memory_alone (PlayFault.NewLog refused) outside = absurd outside
+memory_alone (PlayFault.Script refused) outside = absurd outside
+memory_alone (PlayFault.Refused refusal) outside = absurd outside
+memory_alone PlayFault.LargeLog outside = absurd outside
+memory_alone PlayFault.LargeScript outside = absurd outside
+memory_alone PlayFault.Write outside = absurd outside
 
 -- what is right of an input that was read is also right of the reading
 pub Judges-read : {X : Type 0} (input : Input) (decides : Option PlayFault) (P : X → Type 0)

@@ -12,7 +12,6 @@ use Rattle.replay_difference.specs.declared.script.ScriptForm.{ScriptForm}
 use Rattle.cave_play.specs.Stages.{lines_fault, log_fault, IsFoundIn}
 use Rattle.cave_play.specs.Stages.{first_decided, judging_stage, log_stage}
 use Rattle.cave_play.specs.Sources.{IsUnread, AreRead, Leads}
-use Rattle.play_command.specs.declared.line.Input.TheVariants as input
 use Rattle.cave_play.specs.declared.fault.PlayFault.{PlayFault}
 use Rattle.cave_play.proofs.SourceLemmas.{goes_on, stays}
 use Rattle.cave_play.specs.declared.two_logs.WithCompared.{WithCompared}
@@ -24,7 +23,7 @@ use Rattle.cave_play.proofs.StageLemmas.{first_decided-alone, first_decided-one,
 -- ---- the new log
 
 -- a log that couldn't be read, or is too large
-pub IsFoundIn-unread : (bytes : List ℕ) (found : PlayFault) → IsUnread input.NewLog bytes found
+pub IsFoundIn-unread : (bytes : List ℕ) (found : PlayFault) → IsUnread Input.NewLog bytes found
     → IsFoundIn (new_log_stage bytes ∷ []) found
 unfolding log_fault
 IsFoundIn-unread bytes found (inl outside) = inl (inl outside)

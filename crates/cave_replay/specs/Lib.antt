@@ -1,5 +1,5 @@
 pub mod Agreement
-pub mod Equality
+pub mod Exact
 pub mod LogText
 pub mod Opening
 pub mod Play
@@ -13,6 +13,7 @@ pub mod Table
 pub mod Tails
 pub mod Takeover
 pub use Rattle.base_lines.specs.Bytes
+pub use Rattle.base_lines.specs.Equality
 pub use Rattle.base_lines.specs.Limits
 pub use Rattle.base_lines.specs.Line
 pub use Rattle.replay_checkpoints.specs.Blocks

@@ -4,7 +4,6 @@ use Rattle.std.specs.Prelude.{Option, None, Some, MatchOption, Result}
 use Rattle.base_lines.specs.Line.{is_line, flaw_of}
 use Rattle.base_lines.specs.declared.line.LineFault.{LineFault}
 use Rattle.cave_replay.specs.declared.fault.OpenFault.{OpenFault}
-use Rattle.cave_replay.specs.declared.fault.OpenFault.TheVariants as cause
 use Rattle.replay_edits.specs.Faults.{IsFaultOr}
 use Rattle.cave_replay.specs.Report.{RisesByAtMost}
 use Rattle.base_lines.specs.Limits.{MAX_LOG_LINES, MAX_SEED, MAX_EVERY}
@@ -19,23 +18,23 @@ first_bad_line (line ∷ lines) number =
 -- what is wrong with a game, apart from its lines
 abbrev pub game_fault : List (List ℕ) → ℕ → Option OpenFault
 game_fault log seed =
-    if nat_lt MAX_LOG_LINES (length log) then Some cause.LogFull
-    else (if nat_lt MAX_SEED seed then Some cause.BadSeed else None)
+    if nat_lt MAX_LOG_LINES (length log) then Some OpenFault.LogFull
+    else (if nat_lt MAX_SEED seed then Some OpenFault.BadSeed else None)
 
 -- the first bad line, or otherwise what is wrong with the game apart from its lines
 abbrev pub or_game_fault : Option (ℕ × LineFault) → List (List ℕ) → ℕ → Option OpenFault
-or_game_fault (Some (number, flaw)) log seed = Some (cause.BadLine number flaw)
+or_game_fault (Some (number, flaw)) log seed = Some (OpenFault.BadLine number flaw)
 or_game_fault None log seed = game_fault log seed
 
 -- the first fault of what is given to open a session, if memory suffices
 abbrev pub open_fault : ℕ → List (List ℕ) → ℕ → Option OpenFault
 open_fault every log seed =
-    if every == 0 || nat_lt MAX_EVERY every then Some cause.BadEvery
+    if every == 0 || nat_lt MAX_EVERY every then Some OpenFault.BadEvery
     else or_game_fault (first_bad_line log 1) log seed
 
 -- opening a session returns the first fault, or runs out of memory
 abbrev pub IsAnswerToOpen : {A : Type 0} → Option OpenFault → Result A OpenFault → Type 0
-IsAnswerToOpen fault result = IsFaultOr cause.Memory fault result
+IsAnswerToOpen fault result = IsFaultOr OpenFault.Memory fault result
 
 -- a meter rises by at most the lines that are played, and doesn't rise if there is a fault
 abbrev pub AreOpenSteps : Option OpenFault → ℕ → ℕ → ℕ → Type 0

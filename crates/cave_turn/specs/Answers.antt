@@ -7,7 +7,6 @@ use Rattle.cave_words.specs.Words.{is_written, words_of}
 use Rattle.cave_world.specs.State.{CLUE_HINT, INSTRUCTIONS_HINT}
 use Rattle.cave_world.specs.declared.ending.Ending.TheVariants as ending_is
 use Rattle.cave_world.specs.declared.ending.Question.{Question}
-use Rattle.cave_world.specs.declared.ending.Question.TheVariants as question
 use Rattle.cave_world.specs.declared.state.State.{State}
 use Rattle.turn_scene.specs.Scene.{Scene, scene_at_start}
 use Rattle.cave_world.specs.declared.tables.Table.TheVariants as table
@@ -53,17 +52,17 @@ quit = say role.Ok ∷ end_as ending_is.Quit ∷ []
 
 -- what yes does, and what no does; a player who doesn't fight the dragon gives another command
 abbrev pub answers_to : Question → List (Effect Question) × List (Effect Question)
-answers_to question.Welcome = (give_instructions, arrive start ∷ [])
-answers_to question.Quit = (quit, say role.Ok ∷ [])
-answers_to question.ScoreQuit = (quit, say role.Ok ∷ [])
-answers_to question.Die = (come_back, bury)
-answers_to (question.Hint h) =
+answers_to Question.Welcome = (give_instructions, arrive start ∷ [])
+answers_to Question.Quit = (quit, say role.Ok ∷ [])
+answers_to Question.ScoreQuit = (quit, say role.Ok ∷ [])
+answers_to Question.Die = (come_back, bury)
+answers_to (Question.Hint h) =
     (by_rows_about (always h) price_rows ∷ [], say role.Ok ∷ [])
-answers_to (question.Take h) =
+answers_to (Question.Take h) =
     (by_rows_about (always h) (noted table.HintGiven give_rows) ∷ [], say role.Ok ∷ [])
-answers_to question.Oyster =
+answers_to Question.Oyster =
     (say role.OysterHint ∷ take_hint (always CLUE_HINT) ∷ [], say role.Ok ∷ [])
-answers_to question.Dragon = (fight, [])
+answers_to Question.Dragon = (fight, [])
 
 abbrev pub after_yes : CaveView → Question → Scene → Scene
 after_yes cave q p =
@@ -116,8 +115,8 @@ after_reply cave q answer p =
 
 -- a hint that is offered, or its price
 abbrev pub is_of_hint : Question → Bool
-is_of_hint (question.Hint h) = true
-is_of_hint (question.Take h) = true
+is_of_hint (Question.Hint h) = true
+is_of_hint (Question.Take h) = true
 is_of_hint _ = false
 
 -- an answer about a hint doesn't end the turn as other answers do

@@ -9,7 +9,6 @@ use Rattle.cave_words.specs.declared.named.Named.TheVariants as name
 use Rattle.cave_words.specs.declared.words.Words.{Words}
 use Rattle.cave_world.specs.Sight.{dark}
 use Rattle.cave_world.specs.declared.dwarves.Knife.{Knife}
-use Rattle.cave_world.specs.declared.dwarves.Knife.TheVariants as knife
 use Rattle.cave_world.specs.declared.state.State.{State}
 use Rattle.cave_world.specs.declared.ending.Ending.TheVariants.{Quit}
 use Rattle.cave_world.specs.declared.part.Part.TheVariants as part
@@ -31,18 +30,15 @@ use Rattle.cave_verbs.specs.Rows.{task_of}
 use Rattle.cave_verbs.specs.Effects.{after_default}
 use Rattle.cave_verbs.specs.Verbs.{verb_of}
 use Rattle.cave_verbs.specs.declared.next.Next.{Next}
-use Rattle.cave_verbs.specs.declared.next.Next.TheVariants as next_is
 use Rattle.cave_verbs.specs.declared.task.Task.{Task}
 use Rattle.cave_verbs.specs.declared.verb.Verb.{Verb}
 use Rattle.cave_verbs.specs.Acting.{act, next_of_step}
 use Rattle.turn_clocks.specs.Clocks.{run_clocks}
 use Rattle.turn_clocks.specs.declared.clocks.Clocks.{Clocks}
-use Rattle.turn_clocks.specs.declared.clocks.Clocks.TheVariants as clocks
 use Rattle.cave_turn.specs.Finish.{after_end_of_turn}
 use Rattle.cave_turn.specs.Request.{read_words}
 use Rattle.cave_turn.specs.declared.request.HalfCommand.{HalfCommand}
 use Rattle.cave_turn.specs.declared.request.Request.{Request}
-use Rattle.cave_turn.specs.declared.request.Request.TheVariants as request
 use Rattle.cave_turn.specs.declared.request.Understood.{Understood}
 
 -- a magic word waits for the command after it, and if that says none, the words begin again
@@ -55,7 +51,7 @@ with_knife k s = with_dwarves (record (s.dwarves) { knife = k }) s
 
 -- a knife lies at another place than this
 abbrev pub is_elsewhere : ℕ → Knife → Bool
-is_elsewhere here (knife.At place) = not (place == here)
+is_elsewhere here (Knife.At place) = not (place == here)
 is_elsewhere here _ = false
 
 abbrev pub knife_elsewhere : Test (Unit {0})
@@ -64,7 +60,7 @@ knife_elsewhere d = is_elsewhere d.scene.state.trail.here d.scene.state.dwarves.
 -- a knife that was thrown elsewhere is forgotten
 unfoldable pub forget_knife_rows : List (Row (Unit {0}) (Unit {0}))
 forget_knife_rows =
-    plain_row (knife_elsewhere ∷ []) (change (with_knife knife.Unthrown) ∷ [])
+    plain_row (knife_elsewhere ∷ []) (change (with_knife Knife.Unthrown) ∷ [])
     ∷ []
 
 -- magic words wait, the game remembers whether it is dark, and a knife elsewhere is forgotten
@@ -91,14 +87,14 @@ after_unknown_word cave p =
     (by_table table.UnknownWord unknown_word_rows (deed cave (happens 20 p) (after_draw p))).scene
 
 abbrev pub after_vanished_knives : Scene → Scene
-after_vanished_knives p = after_saying role.Knife (with_state (with_knife knife.Vanished p.state) p)
+after_vanished_knives p = after_saying role.Knife (with_state (with_knife Knife.Vanished p.state) p)
 
 -- what follows what a verb did
 abbrev pub after_next : CaveView → Next → Scene → Scene
-after_next cave next_is.Describe p = after_description cave p
-after_next cave (next_is.Arrive place) p = after_arrival cave place p
-after_next cave (next_is.Ask question) p = after_ask cave question p
-after_next cave (next_is.End how) p = after_end cave how p
+after_next cave Next.Describe p = after_description cave p
+after_next cave (Next.Arrive place) p = after_arrival cave place p
+after_next cave (Next.Ask question) p = after_ask cave question p
+after_next cave (Next.End how) p = after_end cave how p
 after_next cave _ p = p
 
 -- a verb is done by the first of its rows that fits, and then what follows
@@ -110,18 +106,18 @@ do_verb cave task p =
 -- an action is done by its rules, if it has any; otherwise the game says what the cave says of it
 abbrev pub do_action : CaveView → Option Verb → ℕ → ℕ → List ℕ → Scene → Act Next
 do_action cave (Some v) number x word p = do_verb cave (task_of v x word) p
-do_action cave None number x word p = act_of (after_default cave number p) next_is.Stay
+do_action cave None number x word p = act_of (after_default cave number p) Next.Stay
 
 -- what was read is done
 abbrev pub do_request : CaveView → Request → Scene → Act Next
-do_request cave request.Unknown p = act_of (after_unknown_word cave p) next_is.Stay
-do_request cave (request.Motion motion) p = act_of (after_travel cave motion p) next_is.Stay
-do_request cave (request.Tell told) p = act_of (after_telling told p) next_is.Stay
-do_request cave request.Knives p = act_of (after_vanished_knives p) next_is.Stay
-do_request cave (request.Act number x word) p =
+do_request cave Request.Unknown p = act_of (after_unknown_word cave p) Next.Stay
+do_request cave (Request.Motion motion) p = act_of (after_travel cave motion p) Next.Stay
+do_request cave (Request.Tell told) p = act_of (after_telling told p) Next.Stay
+do_request cave Request.Knives p = act_of (after_vanished_knives p) Next.Stay
+do_request cave (Request.Act number x word) p =
     do_action cave (verb_of number) number x word p
-do_request cave (request.WhatToDo word) p =
-    act_of (after_telling (part.Word line.WhatToDo word) p) next_is.Stay
+do_request cave (Request.WhatToDo word) p =
+    act_of (after_telling (part.Word line.WhatToDo word) p) Next.Stay
 
 -- what was read, and what followed
 pub record Followed : Type 0 where
@@ -133,7 +129,7 @@ followed understood next = record { understood = understood; next = next }
 
 -- the verb that asks for its object, if one does
 abbrev pub verb_that_asks : Request → Next → Option ℕ
-verb_that_asks (request.Act number x word) next_is.Keep = Some number
+verb_that_asks (Request.Act number x word) Next.Keep = Some number
 verb_that_asks _ _ = None
 
 abbrev pub asking_verb : Deed Followed → Option ℕ
@@ -143,7 +139,7 @@ abbrev pub asks_for_object : Test Followed
 asks_for_object d = is_some (asking_verb d)
 
 abbrev pub is_what_to_do : Request → Bool
-is_what_to_do (request.WhatToDo word) = true
+is_what_to_do (Request.WhatToDo word) = true
 is_what_to_do _ = false
 
 -- the player is asked for the verb
@@ -151,7 +147,7 @@ abbrev pub asks_for_verb : Test Followed
 asks_for_verb d = is_what_to_do d.about.understood.request
 
 abbrev pub is_unknown : Request → Bool
-is_unknown request.Unknown = true
+is_unknown Request.Unknown = true
 is_unknown _ = false
 
 -- the cave doesn't have the word
@@ -204,9 +200,9 @@ after_unread p = after_keeping None 0 p
 -- what the clocks leave of a command: it is read, or the player gave up, or is where the cave
 -- closed
 abbrev pub after_clocks : CaveView → Words → Clocks → Scene → Scene
-after_clocks cave words clocks.GoOn p = after_words cave words.first words.second p
-after_clocks cave words clocks.GaveUp p = after_unread (after_end cave Quit p)
-after_clocks cave words (clocks.Closed place) p = after_unread (after_arrival cave place p)
+after_clocks cave words Clocks.GoOn p = after_words cave words.first words.second p
+after_clocks cave words Clocks.GaveUp p = after_unread (after_end cave Quit p)
+after_clocks cave words (Clocks.Closed place) p = after_unread (after_arrival cave place p)
 
 unfoldable pub after_timed_words : CaveView → Words → Scene → Scene
 after_timed_words cave words p = let t = run_clocks cave p in after_clocks cave words t.step t.scene

@@ -9,14 +9,10 @@ use Rattle.turn_scene.specs.Tests.{the, either, both, carried, near, is_here, ot
 use Rattle.turn_scene.specs.Tests.{in_bottle, in_lake, at_one_of, at_from_to}
 use Rattle.cave_verbs.specs.Verbs.{verb_number}
 use Rattle.cave_verbs.specs.declared.verb.Verb.{Verb}
-use Rattle.cave_verbs.specs.declared.verb.Verb.TheVariants as verb
 use Rattle.cave_words.specs.declared.named.Named.{Named}
-use Rattle.cave_words.specs.declared.named.Named.TheVariants as name
 use Rattle.cave_world.specs.Motions.{motion_number}
 use Rattle.cave_world.specs.declared.motion.Motion.{Motion}
-use Rattle.cave_world.specs.declared.motion.Motion.TheVariants as motion
 use Rattle.cave_world.specs.declared.dwarves.Knife.{Knife}
-use Rattle.cave_world.specs.declared.dwarves.Knife.TheVariants as knife
 use Rattle.cave_turn.specs.declared.object_words.NamedObject.{NamedObject}
 use Rattle.cave_turn.specs.declared.object_words.ObjectWord.{ObjectWord}
 use Rattle.cave_turn.specs.declared.object_words.ObjectWord.TheVariants.{Is, Leads, Knives, Unseen}
@@ -29,7 +25,7 @@ abbrev pub word_names : Named → Test NamedObject
 word_names n d = is_called d.cave d.about.object n
 
 abbrev pub is_knife_at : ℕ → Knife → Bool
-is_knife_at here (knife.At place) = place == here
+is_knife_at here (Knife.At place) = place == here
 is_knife_at here _ = false
 
 -- a knife was thrown here
@@ -60,17 +56,17 @@ leads m d = Leads (motion_number m)
 abbrev pub object_word_rows : List (Row NamedObject ObjectWord)
 object_word_rows =
     answer_row (either (is_here object) (carried object) ∷ []) (object_meant object)
-    ∷ answer_row (word_names name.Grate ∷ at_one_of (1 ∷ 4 ∷ 7 ∷ []) ∷ []) (leads motion.Depression)
-    ∷ answer_row (word_names name.Grate ∷ at_from_to 10 14 ∷ []) (leads motion.Entrance)
-    ∷ answer_row (word_names name.Dwarf ∷ dwarf ∷ []) (object_meant object)
-    ∷ answer_row (either (both (in_bottle object) (near (the name.Bottle))) (in_lake object) ∷ [])
+    ∷ answer_row (word_names Named.Grate ∷ at_one_of (1 ∷ 4 ∷ 7 ∷ []) ∷ []) (leads Motion.Depression)
+    ∷ answer_row (word_names Named.Grate ∷ at_from_to 10 14 ∷ []) (leads Motion.Entrance)
+    ∷ answer_row (word_names Named.Dwarf ∷ dwarf ∷ []) (object_meant object)
+    ∷ answer_row (either (both (in_bottle object) (near (the Named.Bottle))) (in_lake object) ∷ [])
     (object_meant object)
-    ∷ answer_row (word_names name.Plant ∷ is_here (the name.SecondPlant)
-    ∷ other_prop (the name.SecondPlant) PLANT_SMALL ∷ []) (object_meant (the name.SecondPlant))
-    ∷ answer_row (word_names name.Knife ∷ is_knife_here ∷ []) (always Knives)
-    ∷ answer_row (word_names name.Rod ∷ near (the name.SecondRod) ∷ [])
-    (object_meant (the name.SecondRod))
-    ∷ answer_row (either (by_verb verb.Find) (by_verb verb.Inventory) ∷ alone ∷ [])
+    ∷ answer_row (word_names Named.Plant ∷ is_here (the Named.SecondPlant)
+    ∷ other_prop (the Named.SecondPlant) PLANT_SMALL ∷ []) (object_meant (the Named.SecondPlant))
+    ∷ answer_row (word_names Named.Knife ∷ is_knife_here ∷ []) (always Knives)
+    ∷ answer_row (word_names Named.Rod ∷ near (the Named.SecondRod) ∷ [])
+    (object_meant (the Named.SecondRod))
+    ∷ answer_row (either (by_verb Verb.Find) (by_verb Verb.Inventory) ∷ alone ∷ [])
     (object_meant object) ∷ []
 
 unfoldable pub object_word : Deed NamedObject → Act ObjectWord

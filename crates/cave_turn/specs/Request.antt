@@ -7,7 +7,6 @@ use Rattle.cave_data.specs.CaveView.{CaveView}
 use Rattle.cave_words.specs.Meanings.{meaning, same_class}
 use Rattle.cave_words.specs.Words.{is_written, word_of}
 use Rattle.cave_words.specs.declared.meaning.Class.{Class}
-use Rattle.cave_words.specs.declared.meaning.Class.TheVariants as class
 use Rattle.cave_words.specs.declared.meaning.Meaning.{Meaning}
 use Rattle.cave_words.specs.declared.named.Named.TheVariants as name
 use Rattle.cave_world.specs.declared.motion.Motion.{Motion as NamedMotion}
@@ -24,13 +23,10 @@ use Rattle.turn_scene.specs.Rows.{Act, Row, act_of, answer_by_table}
 use Rattle.turn_scene.specs.Tests.{the, no, either, both, is_here, in_lake}
 use Rattle.cave_verbs.specs.Verbs.{verb_number}
 use Rattle.cave_verbs.specs.declared.verb.Verb.{Verb}
-use Rattle.cave_verbs.specs.declared.verb.Verb.TheVariants as verb
 use Rattle.turn_scene.specs.Effects.{in_scene}
 use Rattle.cave_turn.specs.ObjectWords.{is_verb_of, object_word}
 use Rattle.cave_turn.specs.declared.object_words.ObjectWord.{ObjectWord}
-use Rattle.cave_turn.specs.declared.object_words.ObjectWord.TheVariants as object_is
 use Rattle.cave_turn.specs.declared.request.HalfCommand.{HalfCommand}
-use Rattle.cave_turn.specs.declared.request.Request.TheVariants as request
 use Rattle.cave_turn.specs.declared.request.SaidWord.{SaidWord}
 use Rattle.cave_turn.specs.declared.request.Understood.{Understood}
 use Rattle.cave_turn.specs.declared.request.Request.{Request}
@@ -57,7 +53,7 @@ has_next d = is_some d.about.next
 
 -- SAY was said before
 abbrev pub after_say : Test Phrase
-after_say d = is_verb_of verb.Say d.about.half.verb
+after_say d = is_verb_of Verb.Say d.about.half.verb
 
 -- the word is this one
 abbrev pub word_is : List ℕ → Test Phrase
@@ -116,7 +112,7 @@ abbrev pub pour_in : CaveView → SaidWord
 pour_in cave =
     record {
       word = word_of cave.letters (codes "POUR");
-      meaning = Some (record { class = class.Action; number = verb_number verb.Pour });
+      meaning = Some (record { class = Class.Action; number = verb_number Verb.Pour });
     }
 
 -- the next word is POUR
@@ -128,26 +124,26 @@ abbrev pub asks_for : Request → Deed Phrase → Act Understood
 asks_for asked d = act_of d.scene (record { half = d.about.half; request = asked })
 
 abbrev pub travels : Deed Phrase → Act Understood
-travels d = asks_for (request.Motion (number d)) d
+travels d = asks_for (Request.Motion (number d)) d
 
 abbrev pub says : Role → Deed Phrase → Act Understood
-says r d = asks_for (request.Tell (part.Role r)) d
+says r d = asks_for (Request.Tell (part.Role r)) d
 
 abbrev pub tells_message : Deed Phrase → Act Understood
-tells_message d = asks_for (request.Tell (part.Message (number d))) d
+tells_message d = asks_for (Request.Tell (part.Message (number d))) d
 
 -- the word is said aloud
 abbrev pub echoes : Deed Phrase → Act Understood
-echoes d = asks_for (request.Tell (part.Word line.Okay d.about.word.word)) d
+echoes d = asks_for (Request.Tell (part.Word line.Okay d.about.word.word)) d
 
 -- the verb is done to no object
 abbrev pub acts_alone : Deed Phrase → Act Understood
-acts_alone d = asks_for (request.Act (number d) 0 d.about.word.word) d
+acts_alone d = asks_for (Request.Act (number d) 0 d.about.word.word) d
 
 -- the verb is done to the object, if there is one; without a verb the player is asked what to do
 abbrev pub acts_by : Option ℕ → Deed Phrase → Act Understood
-acts_by (Some v) d = asks_for (request.Act v d.about.half.object d.about.word.word) d
-acts_by None d = asks_for (request.WhatToDo d.about.word.word) d
+acts_by (Some v) d = asks_for (Request.Act v d.about.half.object d.about.word.word) d
+acts_by None d = asks_for (Request.WhatToDo d.about.word.word) d
 
 abbrev pub acts_by_verb : Deed Phrase → Act Understood
 acts_by_verb d = acts_by d.about.half.verb d
@@ -159,11 +155,11 @@ object_comes_to is_alone d =
     object_word (deed d.cave (record { object = x; verb = v; is_alone = is_alone }) d.scene)
 
 abbrev pub by_object_alone : ObjectWord → Deed Phrase → Act Understood
-by_object_alone (object_is.Is x) d = acts_by_verb (take_object x d)
-by_object_alone (object_is.Leads motion) d = asks_for (request.Motion motion) d
-by_object_alone object_is.Knives d = asks_for request.Knives d
-by_object_alone object_is.Unseen d =
-    asks_for (request.Tell (part.Word line.NotSeen d.about.word.word)) d
+by_object_alone (ObjectWord.Is x) d = acts_by_verb (take_object x d)
+by_object_alone (ObjectWord.Leads motion) d = asks_for (Request.Motion motion) d
+by_object_alone ObjectWord.Knives d = asks_for Request.Knives d
+by_object_alone ObjectWord.Unseen d =
+    asks_for (Request.Tell (part.Word line.NotSeen d.about.word.word)) d
 
 abbrev pub object_alone : Deed Phrase → Act Understood
 object_alone d =
@@ -172,11 +168,11 @@ object_alone d =
 -- a word that no other word follows
 abbrev pub word_alone_rows : List (Row Phrase (Act Understood))
 word_alone_rows =
-    answer_row (no has_meaning ∷ []) (asks_for request.Unknown)
-    ∷ answer_row (means class.Motion ∷ []) travels
-    ∷ answer_row (means class.Special ∷ []) tells_message
-    ∷ answer_row (means class.Object ∷ []) object_alone
-    ∷ answer_row (means class.Action ∷ of_action verb.Say ∷ []) acts_alone ∷ []
+    answer_row (no has_meaning ∷ []) (asks_for Request.Unknown)
+    ∷ answer_row (means Class.Motion ∷ []) travels
+    ∷ answer_row (means Class.Special ∷ []) tells_message
+    ∷ answer_row (means Class.Object ∷ []) object_alone
+    ∷ answer_row (means Class.Action ∷ of_action Verb.Say ∷ []) acts_alone ∷ []
 
 unfoldable pub word_alone : Deed Phrase → Act Understood
 word_alone d = answer_by_table table.WordAlone word_alone_rows
@@ -199,16 +195,16 @@ word_entered d = answer_by_table table.WordEntered word_entered_rows
 -- a word that is said aloud
 abbrev pub word_aloud_rows : List (Row Phrase (Act Understood))
 word_aloud_rows =
-    answer_row (means class.Motion ∷ either (of_motion motion.Xyzzy)
+    answer_row (means Class.Motion ∷ either (of_motion motion.Xyzzy)
     (either (of_motion motion.Plugh) (of_motion motion.Plover)) ∷ []) word_alone
-    ∷ answer_row (means class.Action ∷ of_action verb.Foo ∷ []) word_alone ∷ []
+    ∷ answer_row (means Class.Action ∷ of_action Verb.Foo ∷ []) word_alone ∷ []
 
 unfoldable pub word_aloud : Deed Phrase → Act Understood
 word_aloud d = answer_by_table table.WordAloud word_aloud_rows
     (otherwise_row [] echoes) d
 
 abbrev pub by_object_before : ObjectWord → Deed Phrase → Act Understood
-by_object_before (object_is.Is x) d = word_alone (read_next (take_object x d))
+by_object_before (ObjectWord.Is x) d = word_alone (read_next (take_object x d))
 by_object_before word d = by_object_alone word d
 
 abbrev pub object_before : Deed Phrase → Act Understood
@@ -218,11 +214,11 @@ object_before d =
 -- a word that another word follows
 abbrev pub word_before_rows : List (Row Phrase (Act Understood))
 word_before_rows =
-    answer_row (no has_meaning ∷ []) (asks_for request.Unknown)
-    ∷ answer_row (means class.Motion ∷ []) travels
-    ∷ answer_row (means class.Special ∷ []) tells_message
-    ∷ answer_row (means class.Object ∷ []) object_before
-    ∷ row_then (means class.Action ∷ of_action verb.Say ∷ []) (read_next ∷ []) word_aloud ∷ []
+    answer_row (no has_meaning ∷ []) (asks_for Request.Unknown)
+    ∷ answer_row (means Class.Motion ∷ []) travels
+    ∷ answer_row (means Class.Special ∷ []) tells_message
+    ∷ answer_row (means Class.Object ∷ []) object_before
+    ∷ row_then (means Class.Action ∷ of_action Verb.Say ∷ []) (read_next ∷ []) word_aloud ∷ []
 
 unfoldable pub word_before : Deed Phrase → Act Understood
 word_before d = answer_by_table table.WordBefore word_before_rows

@@ -3,14 +3,12 @@ use Rattle.std.specs.Prelude.{ℕ, Bool, true, false, if◌then◌else◌, List,
 use Rattle.std.specs.Prelude.{None}
 use Rattle.base_lines.specs.LogLine.{log_line}
 use Rattle.base_lines.specs.declared.log_line.LogLine.{LogLine}
-use Rattle.base_lines.specs.declared.log_line.LogLine.TheVariants as kind
 use Rattle.data_rows.specs.declared.role.Role.TheVariants as role
 use Rattle.cave_data.specs.CaveView.{CaveView}
 use Rattle.cave_words.specs.Stream.{stream_of_seed}
 use Rattle.cave_world.specs.declared.ending.Ending.{Ending}
 use Rattle.cave_world.specs.declared.ending.Question.{Question}
 use Rattle.cave_world.specs.declared.part.Part.{Part}
-use Rattle.cave_world.specs.declared.part.Part.TheVariants as part
 use Rattle.cave_world.specs.declared.state.State.{State}
 use Rattle.turn_scene.specs.Scene.{Scene}
 use Rattle.turn_ends.specs.Begin.{begun_state}
@@ -45,8 +43,8 @@ with_seed s seed = record s { stream = stream_of_seed seed }
 
 -- a seed line changes only the random stream, in any state
 abbrev pub turn_on_log_line : CaveView → List ℕ → LogLine → State → Turn
-turn_on_log_line cave line (kind.Seed seed) s = silent_turn (with_seed s seed)
-turn_on_log_line cave line kind.Input s = turn_of_input cave line s.ending s.question s
+turn_on_log_line cave line (LogLine.Seed seed) s = silent_turn (with_seed s seed)
+turn_on_log_line cave line LogLine.Input s = turn_of_input cave line s.ending s.question s
 turn_on_log_line cave line _ s = silent_turn s
 
 unfoldable pub turn_on_line : CaveView → State → List ℕ → Turn
@@ -62,7 +60,7 @@ rows_of_input cave line None (Some question) s =
 rows_of_input cave line None None s = (after_command cave line s).rows
 
 abbrev pub rows_on_log_line : CaveView → List ℕ → LogLine → State → List RuleRow
-rows_on_log_line cave line kind.Input s = rows_of_input cave line s.ending s.question s
+rows_on_log_line cave line LogLine.Input s = rows_of_input cave line s.ending s.question s
 rows_on_log_line cave line _ s = []
 
 -- the rows of the rules that are noted on a line of a log
@@ -77,4 +75,4 @@ pub record Beginning : Type 0 where
 -- a new game asks whether the player wants instructions
 unfoldable pub start_of_game : CaveView → ℕ → Beginning
 start_of_game cave seed =
-    record { state = begun_state cave (stream_of_seed seed); parts = part.Role role.Welcome ∷ [] }
+    record { state = begun_state cave (stream_of_seed seed); parts = Part.Role role.Welcome ∷ [] }

@@ -13,7 +13,6 @@ use Rattle.turn_scene.specs.Reach.{is_carried, is_near, liquid_of, is_liquid}
 use Rattle.world_objects.specs.Objects.{is_in_hands, is_first_at, spot_of}
 use Rattle.cave_verbs.specs.Verbs.{is_verb}
 use Rattle.cave_verbs.specs.declared.verb.Verb.{Verb}
-use Rattle.cave_verbs.specs.declared.verb.Verb.TheVariants as verb
 use Rattle.cave_verbs.specs.Rows.{take_rank, drop_rank, throw_rank, bare_rank, rank}
 
 -- the bottle isn't a liquid
@@ -98,15 +97,15 @@ fill_falls cave s x near = let there = near-there cave s x near in grind (arith,
 
 -- from no object to one the rank of OPEN and LOCK falls
 pub lock_falls : (cave : CaveView) (v : Verb) (x : ℕ)
-    → (is_verb v verb.Open || is_verb v verb.Lock) ≡ true → 0 < x → suc (rank cave v x) ≤ 1
-lock_falls cave verb.Open x is some = grind (arith, some)
-lock_falls cave verb.Lock x is some = grind (arith, some)
+    → (is_verb v Verb.Open || is_verb v Verb.Lock) ≡ true → 0 < x → suc (rank cave v x) ≤ 1
+lock_falls cave Verb.Open x is some = grind (arith, some)
+lock_falls cave Verb.Lock x is some = grind (arith, some)
 lock_falls cave _ x is some = absurd (false≢true is)
 
 -- no verb goes on more than three times
 pub few_ranks : (cave : CaveView) (v : Verb) (x : ℕ) → rank cave v x ≤ 3
-few_ranks cave verb.Take x = grind arith
-few_ranks cave verb.Drop x = grind arith
-few_ranks cave verb.Throw x = grind arith
-few_ranks cave verb.Feed x = omega arith
+few_ranks cave Verb.Take x = grind arith
+few_ranks cave Verb.Drop x = grind arith
+few_ranks cave Verb.Throw x = grind arith
+few_ranks cave Verb.Feed x = omega arith
 few_ranks cave _ x = grind arith

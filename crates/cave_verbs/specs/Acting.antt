@@ -10,7 +10,6 @@ use Rattle.cave_verbs.specs.declared.next.VerbStep.{VerbStep}
 use Rattle.cave_verbs.specs.declared.next.VerbStep.TheVariants.{Done, GoOn}
 use Rattle.cave_verbs.specs.declared.task.Task.{Task}
 use Rattle.cave_verbs.specs.declared.verb.Verb.{Verb}
-use Rattle.cave_verbs.specs.declared.verb.Verb.TheVariants as verb
 use Rattle.cave_world.specs.declared.tables.Table.TheVariants as table
 use Rattle.cave_verbs.specs.Small.{blast_rows, break_rows, wake_rows, on_rows, off_rows, bare_rows}
 use Rattle.cave_verbs.specs.Small.{other_rows, nothing_rows, bare_quit_rows, bare_score_rows}
@@ -31,34 +30,34 @@ use Rattle.cave_verbs.specs.declared.command.Command.{Command}
 
 -- the rows of a verb without an object, and those of the verb with one
 abbrev pub rows_of : Verb → List VerbRow × List VerbRow
-rows_of verb.Take = (noted table.BareTake bare_take_rows, noted table.Take take_rows)
-rows_of verb.Drop = (bare_rows, noted table.Drop drop_rows)
-rows_of verb.Say = (bare_rows, other_rows)
-rows_of verb.Open = (noted table.BareOpen bare_open_rows, noted table.Open open_rows)
-rows_of verb.Nothing = (nothing_rows, nothing_rows)
-rows_of verb.Lock = (noted table.BareOpen bare_open_rows, noted table.Open open_rows)
-rows_of verb.On = (noted table.On on_rows, noted table.On on_rows)
-rows_of verb.Off = (noted table.Off off_rows, noted table.Off off_rows)
-rows_of verb.Wave = (bare_rows, noted table.Wave wave_rows)
-rows_of verb.Calm = (bare_rows, other_rows)
-rows_of verb.Kill = (noted table.BareKill bare_kill_rows, noted table.Kill kill_rows)
-rows_of verb.Pour = (noted table.Pour pour_rows, noted table.Pour pour_rows)
-rows_of verb.Eat = (noted table.BareEat bare_eat_rows, noted table.Eat eat_rows)
-rows_of verb.Drink = (noted table.Drink drink_rows, noted table.Drink drink_rows)
-rows_of verb.Rub = (bare_rows, noted table.Rub rub_rows)
-rows_of verb.Throw = (bare_rows, noted table.Throw throw_rows)
-rows_of verb.Quit = (bare_quit_rows, other_rows)
-rows_of verb.Find = (bare_rows, noted table.Find find_rows)
-rows_of verb.Inventory = (noted table.BareInventory bare_inventory_rows, noted table.Find find_rows)
-rows_of verb.Feed = (bare_rows, noted table.Feed feed_rows)
-rows_of verb.Fill = (noted table.BareFill bare_fill_rows, noted table.Fill fill_rows)
-rows_of verb.Blast = (noted table.Blast blast_rows, noted table.Blast blast_rows)
-rows_of verb.Score = (bare_score_rows, other_rows)
-rows_of verb.Foo = (noted table.BareFoo bare_foo_rows, other_rows)
-rows_of verb.Brief = (bare_brief_rows, other_rows)
-rows_of verb.Read = (noted table.BareRead bare_read_rows, noted table.Read read_rows)
-rows_of verb.Break = (bare_rows, noted table.Break break_rows)
-rows_of verb.Wake = (bare_rows, noted table.Wake wake_rows)
+rows_of Verb.Take = (noted table.BareTake bare_take_rows, noted table.Take take_rows)
+rows_of Verb.Drop = (bare_rows, noted table.Drop drop_rows)
+rows_of Verb.Say = (bare_rows, other_rows)
+rows_of Verb.Open = (noted table.BareOpen bare_open_rows, noted table.Open open_rows)
+rows_of Verb.Nothing = (nothing_rows, nothing_rows)
+rows_of Verb.Lock = (noted table.BareOpen bare_open_rows, noted table.Open open_rows)
+rows_of Verb.On = (noted table.On on_rows, noted table.On on_rows)
+rows_of Verb.Off = (noted table.Off off_rows, noted table.Off off_rows)
+rows_of Verb.Wave = (bare_rows, noted table.Wave wave_rows)
+rows_of Verb.Calm = (bare_rows, other_rows)
+rows_of Verb.Kill = (noted table.BareKill bare_kill_rows, noted table.Kill kill_rows)
+rows_of Verb.Pour = (noted table.Pour pour_rows, noted table.Pour pour_rows)
+rows_of Verb.Eat = (noted table.BareEat bare_eat_rows, noted table.Eat eat_rows)
+rows_of Verb.Drink = (noted table.Drink drink_rows, noted table.Drink drink_rows)
+rows_of Verb.Rub = (bare_rows, noted table.Rub rub_rows)
+rows_of Verb.Throw = (bare_rows, noted table.Throw throw_rows)
+rows_of Verb.Quit = (bare_quit_rows, other_rows)
+rows_of Verb.Find = (bare_rows, noted table.Find find_rows)
+rows_of Verb.Inventory = (noted table.BareInventory bare_inventory_rows, noted table.Find find_rows)
+rows_of Verb.Feed = (bare_rows, noted table.Feed feed_rows)
+rows_of Verb.Fill = (noted table.BareFill bare_fill_rows, noted table.Fill fill_rows)
+rows_of Verb.Blast = (noted table.Blast blast_rows, noted table.Blast blast_rows)
+rows_of Verb.Score = (bare_score_rows, other_rows)
+rows_of Verb.Foo = (noted table.BareFoo bare_foo_rows, other_rows)
+rows_of Verb.Brief = (bare_brief_rows, other_rows)
+rows_of Verb.Read = (noted table.BareRead bare_read_rows, noted table.Read read_rows)
+rows_of Verb.Break = (bare_rows, noted table.Break break_rows)
+rows_of Verb.Wake = (bare_rows, noted table.Wake wake_rows)
 
 unfoldable pub act_bare : Deed Task → Act VerbStep
 act_bare d = first_fitting (rows_of d.about.verb).0 d

@@ -2,7 +2,6 @@
 use Rattle.std.specs.Prelude.{◌+◌, min, List, [], ◌∷◌}
 use Rattle.data_rows.specs.declared.role.Role.TheVariants as role
 use Rattle.cave_words.specs.declared.named.Named.{Named}
-use Rattle.cave_words.specs.declared.named.Named.TheVariants as name
 use Rattle.cave_world.specs.Limits.{MAX_ANGER}
 use Rattle.cave_world.specs.declared.state.State.{State}
 use Rattle.turn_scene.specs.Scene.{is_one_of}
@@ -28,9 +27,9 @@ bare_eat_rows =
 
 unfoldable pub eat_rows : List VerbRow
 eat_rows =
-    row (is name.Food ∷ []) (destroy x ∷ say role.Eaten ∷ [])
-    ∷ row (is_any (name.Bird ∷ name.Snake ∷ name.Clam ∷ name.Oyster ∷ name.Dwarf ∷ name.Dragon
-    ∷ name.Troll ∷ name.Bear ∷ []) ∷ []) (say role.NoAppetite ∷ [])
+    row (is Named.Food ∷ []) (destroy x ∷ say role.Eaten ∷ [])
+    ∷ row (is_any (Named.Bird ∷ Named.Snake ∷ Named.Clam ∷ Named.Oyster ∷ Named.Dwarf ∷ Named.Dragon
+    ∷ Named.Troll ∷ Named.Bear ∷ []) ∷ []) (say role.NoAppetite ∷ [])
     ∷ otherwise_then (default ∷ []) stays
 
 -- the dwarves are angrier by one, up to the most
@@ -40,18 +39,18 @@ with_more_anger s =
 
 unfoldable pub feed_rows : List VerbRow
 feed_rows =
-    row (is name.Bird ∷ []) (say role.BirdFeed ∷ [])
-    ∷ row (is name.Snake ∷ no cave_closed ∷ near bird ∷ [])
+    row (is Named.Bird ∷ []) (say role.BirdFeed ∷ [])
+    ∷ row (is Named.Snake ∷ no cave_closed ∷ near bird ∷ [])
     (destroy bird ∷ set_prop bird BIRD_FREE ∷ lose_one ∷ say role.BirdEaten ∷ [])
-    ∷ row (is name.Dragon ∷ other_prop x DRAGON_ALIVE ∷ []) (say role.Ridiculous ∷ [])
-    ∷ row (either (is name.Snake) (is name.Dragon) ∷ []) (say role.NotHungry ∷ [])
-    ∷ row (is name.Troll ∷ []) (say role.TrollFeed ∷ [])
-    ∷ row (is name.Dwarf ∷ near food ∷ []) (change with_more_anger ∷ say role.DwarfFeed ∷ [])
-    ∷ row (is name.Dwarf ∷ []) (default ∷ [])
-    ∷ row (is name.Bear ∷ near food ∷ [])
+    ∷ row (is Named.Dragon ∷ other_prop x DRAGON_ALIVE ∷ []) (say role.Ridiculous ∷ [])
+    ∷ row (either (is Named.Snake) (is Named.Dragon) ∷ []) (say role.NotHungry ∷ [])
+    ∷ row (is Named.Troll ∷ []) (say role.TrollFeed ∷ [])
+    ∷ row (is Named.Dwarf ∷ near food ∷ []) (change with_more_anger ∷ say role.DwarfFeed ∷ [])
+    ∷ row (is Named.Dwarf ∷ []) (default ∷ [])
+    ∷ row (is Named.Bear ∷ near food ∷ [])
     (destroy food ∷ set_prop x BEAR_FED ∷ loosen axe ∷ set_prop axe AXE_FREE ∷ say role.BearFed
     ∷ [])
-    ∷ row (is name.Bear ∷ prop x BEAR_WILD ∷ []) (say role.NotHungry ∷ [])
-    ∷ row (is name.Bear ∷ prop x BEAR_DEAD ∷ []) (say role.Ridiculous ∷ [])
-    ∷ row (is name.Bear ∷ []) (default ∷ [])
+    ∷ row (is Named.Bear ∷ prop x BEAR_WILD ∷ []) (say role.NotHungry ∷ [])
+    ∷ row (is Named.Bear ∷ prop x BEAR_DEAD ∷ []) (say role.Ridiculous ∷ [])
+    ∷ row (is Named.Bear ∷ []) (default ∷ [])
     ∷ otherwise_then (say role.FeedWhat ∷ []) stays

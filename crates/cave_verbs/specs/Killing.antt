@@ -15,7 +15,6 @@ use Rattle.cave_verbs.specs.Rows.{VerbRow, row, keeps, poses, ends, does, stays,
 use Rattle.cave_verbs.specs.Effects.{default, ask_what}
 use Rattle.cave_verbs.specs.Verbs.{is_verb}
 use Rattle.cave_verbs.specs.declared.verb.Verb.{Verb}
-use Rattle.cave_verbs.specs.declared.verb.Verb.TheVariants as verb
 use Rattle.cave_verbs.specs.declared.task.Task.{Task}
 use Rattle.cave_verbs.specs.Things.{bear, bird, clam, dragon, oyster, snake, troll}
 
@@ -35,16 +34,16 @@ foes = objects_meant
 -- what is killed if there is no foe
 abbrev pub prey : Deed Task → List ℕ
 prey = objects_meant
-    (candidate name.Bird (both (near bird) (no (is_typed verb.Throw)))
+    (candidate name.Bird (both (near bird) (no (is_typed Verb.Throw)))
     ∷ candidate name.Clam (either (near clam) (near oyster))
     ∷ [])
 
 unfoldable pub bare_kill_rows : List VerbRow
 bare_kill_rows =
     row_then (several foes ∷ []) (ask_what ∷ []) keeps
-    ∷ row_then (there_is (first foes) ∷ []) [] (does verb.Kill (first foes))
+    ∷ row_then (there_is (first foes) ∷ []) [] (does Verb.Kill (first foes))
     ∷ row_then (several prey ∷ []) (ask_what ∷ []) keeps
-    ∷ row_then (there_is (first prey) ∷ []) [] (does verb.Kill (first prey))
+    ∷ row_then (there_is (first prey) ∷ []) [] (does Verb.Kill (first prey))
     ∷ otherwise_then (say role.NoneToKill ∷ []) stays
 
 unfoldable pub kill_rows : List VerbRow

@@ -5,7 +5,6 @@ use Rattle.std.specs.Int.{int_rem_euclid}
 use Rattle.data_rows.specs.declared.role.Role.TheVariants as role
 use Rattle.cave_data.specs.CaveView.{CaveView}
 use Rattle.cave_words.specs.declared.named.Named.{Named}
-use Rattle.cave_words.specs.declared.named.Named.TheVariants as name
 use Rattle.world_objects.specs.Objects.{prop_of}
 use Rattle.cave_world.specs.declared.state.State.{State}
 use Rattle.turn_scene.specs.Scene.{is_called}
@@ -26,7 +25,7 @@ use Rattle.cave_verbs.specs.Things.{bottle, door, oil, plant, second_plant, wate
 -- a name
 abbrev pub poured_of : CaveView → State → ℕ → ℕ
 poured_of cave s y =
-    if y == 0 || is_called cave y name.Bottle then unwrap_or (liquid_of cave s) 0 else y
+    if y == 0 || is_called cave y Named.Bottle then unwrap_or (liquid_of cave s) 0 else y
 
 abbrev pub what_is_poured : Thing Task
 what_is_poured d = poured_of d.cave d.scene.state d.about.object
@@ -60,14 +59,14 @@ water_at_hand = both (in_bottle water) (near bottle)
 
 unfoldable pub pour_rows : List VerbRow
 pour_rows =
-    row_then (either no_object (is name.Bottle) ∷ no bottle_full ∷ []) (ask_what ∷ []) keeps
+    row_then (either no_object (is Named.Bottle) ∷ no bottle_full ∷ []) (ask_what ∷ []) keeps
     ∷ row (no (carried what_is_poured) ∷ []) (default ∷ [])
-    ∷ row (no (pours name.Water) ∷ no (pours name.Oil) ∷ []) (say role.CantPour ∷ [])
-    ∷ row (is_here door ∷ pours name.Oil ∷ [])
+    ∷ row (no (pours Named.Water) ∷ no (pours Named.Oil) ∷ []) (say role.CantPour ∷ [])
+    ∷ row (is_here door ∷ pours Named.Oil ∷ [])
     (empty_bottle ∷ set_prop door DOOR_OILED ∷ say role.DoorOiled ∷ [])
     ∷ row (is_here door ∷ [])
     (empty_bottle ∷ set_prop door DOOR_RUSTY ∷ say role.DoorWet ∷ [])
-    ∷ row_then (is_here plant ∷ pours name.Water ∷ [])
+    ∷ row_then (is_here plant ∷ pours Named.Water ∷ [])
     (empty_bottle ∷ plant_watered) again
     ∷ row (is_here plant ∷ []) (empty_bottle ∷ say role.PlantOil ∷ [])
     ∷ otherwise_then (empty_bottle ∷ say role.PourGround ∷ []) stays
@@ -76,7 +75,7 @@ unfoldable pub drink_rows : List VerbRow
 drink_rows =
     row_then (no_object ∷ no (in_lake water) ∷ no water_at_hand ∷ [])
     (ask_what ∷ []) keeps
-    ∷ row (there_is x ∷ no (is name.Water) ∷ []) (say role.Ridiculous ∷ [])
+    ∷ row (there_is x ∷ no (is Named.Water) ∷ []) (say role.Ridiculous ∷ [])
     ∷ row (water_at_hand ∷ []) (empty_bottle ∷ say role.Drunk ∷ [])
     ∷ otherwise_then (default ∷ []) stays
 
@@ -87,10 +86,10 @@ bare_fill_rows =
 
 unfoldable pub fill_rows : List VerbRow
 fill_rows =
-    row (is name.Vase ∷ no lake ∷ []) (say role.VaseDry ∷ [])
-    ∷ row (is name.Vase ∷ no (carried x) ∷ []) (say role.NotHeld ∷ [])
-    ∷ row (is name.Vase ∷ []) (say role.VaseBreak ∷ set_prop x VASE_BROKEN ∷ fix x ∷ bring x ∷ [])
-    ∷ row (no (is name.Bottle) ∷ []) (default ∷ [])
+    row (is Named.Vase ∷ no lake ∷ []) (say role.VaseDry ∷ [])
+    ∷ row (is Named.Vase ∷ no (carried x) ∷ []) (say role.NotHeld ∷ [])
+    ∷ row (is Named.Vase ∷ []) (say role.VaseBreak ∷ set_prop x VASE_BROKEN ∷ fix x ∷ bring x ∷ [])
+    ∷ row (no (is Named.Bottle) ∷ []) (default ∷ [])
     ∷ row (bottle_full ∷ []) (say role.BottleFull ∷ [])
     ∷ row (no lake ∷ []) (say role.NoLake ∷ [])
     ∷ row (in_lake oil ∷ []) (set_prop x BOTTLE_OF_OIL ∷ say role.FilledOil ∷ [])

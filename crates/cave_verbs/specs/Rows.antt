@@ -5,10 +5,8 @@ use Rattle.cave_verbs.specs.declared.next.Next.TheVariants.{Stay}
 use Rattle.cave_verbs.specs.declared.next.VerbStep.{VerbStep}
 use Rattle.cave_verbs.specs.declared.next.VerbStep.TheVariants.{Done, GoOn}
 use Rattle.cave_data.specs.CaveView.{CaveView}
-use Rattle.cave_words.specs.declared.named.Named.TheVariants as name
 use Rattle.turn_scene.specs.Scene.{is_called}
 use Rattle.cave_verbs.specs.declared.verb.Verb.{Verb}
-use Rattle.cave_verbs.specs.declared.verb.Verb.TheVariants as verb
 use Rattle.cave_world.specs.declared.ending.Ending.{Ending}
 use Rattle.cave_world.specs.declared.ending.Question.{Question}
 use Rattle.turn_scene.specs.declared.scene.Scene.{Scene as OpenScene}
@@ -18,7 +16,6 @@ use Rattle.turn_scene.specs.Rows.{nothing_but, noted_from, PlaysBy}
 use Rattle.cave_world.specs.declared.tables.RuleRow.{RuleRow}
 use Rattle.cave_world.specs.declared.tables.Table.{Table}
 use Rattle.cave_verbs.specs.declared.next.Next.{Next}
-use Rattle.cave_verbs.specs.declared.next.Next.TheVariants as next_is
 use Rattle.cave_verbs.specs.declared.task.Task.{Task}
 use Rattle.cave_words.specs.declared.named.Named.{Named}
 
@@ -30,26 +27,26 @@ parts_by _ = parts_of_row
 -- TAKE goes on from no object to one, and from a liquid to the bottle, or to FILL it
 abbrev pub take_rank : CaveView → ℕ → ℕ
 take_rank cave x =
-    if x == 0 then 3 else (if is_called cave x name.Water || is_called cave x name.Oil then 2
+    if x == 0 then 3 else (if is_called cave x Named.Water || is_called cave x Named.Oil then 2
     else 1)
 
 -- DROP goes on from the first rod to the second
 abbrev pub drop_rank : CaveView → ℕ → ℕ
-drop_rank cave x = if is_called cave x name.Rod then 1 else 0
+drop_rank cave x = if is_called cave x Named.Rod then 1 else 0
 
 -- THROW goes on from the first rod to the second, and to DROP, FEED or KILL
 abbrev pub throw_rank : CaveView → ℕ → ℕ
-throw_rank cave x = if is_called cave x name.Rod then 3 else 2
+throw_rank cave x = if is_called cave x Named.Rod then 3 else 2
 
 -- FEED goes on to nothing, and other verbs only from no object to one
 abbrev pub bare_rank : ℕ → ℕ
 bare_rank x = if x == 0 then 1 else 0
 
 abbrev pub rank : CaveView → Verb → ℕ → ℕ
-rank cave verb.Take x = take_rank cave x
-rank cave verb.Drop x = drop_rank cave x
-rank cave verb.Throw x = throw_rank cave x
-rank cave verb.Feed x = 0
+rank cave Verb.Take x = take_rank cave x
+rank cave Verb.Drop x = drop_rank cave x
+rank cave Verb.Throw x = throw_rank cave x
+rank cave Verb.Feed x = 0
 rank cave _ x = bare_rank x
 
 -- a verb that goes on has a higher rank than what it goes on with
@@ -71,24 +68,24 @@ VerbRow = Row Task VerbStep
 
 -- nothing follows
 abbrev pub stays : Deed Task → VerbStep
-stays d = Done next_is.Stay
+stays d = Done Next.Stay
 
 -- the verb is kept for the next line
 abbrev pub keeps : Deed Task → VerbStep
-keeps d = Done next_is.Keep
+keeps d = Done Next.Keep
 
 abbrev pub describes : Deed Task → VerbStep
-describes d = Done next_is.Describe
+describes d = Done Next.Describe
 
 -- the player arrives again where the player is
 abbrev pub again : Deed Task → VerbStep
-again d = Done (next_is.Arrive d.scene.state.trail.here)
+again d = Done (Next.Arrive d.scene.state.trail.here)
 
 abbrev pub poses : Question → Deed Task → VerbStep
-poses question d = Done (next_is.Ask question)
+poses question d = Done (Next.Ask question)
 
 abbrev pub ends : Ending → Deed Task → VerbStep
-ends how d = Done (next_is.End how)
+ends how d = Done (Next.End how)
 
 -- it goes on with a verb and an object
 abbrev pub does : Verb → Thing Task → Deed Task → VerbStep

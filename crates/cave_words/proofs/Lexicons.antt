@@ -12,7 +12,6 @@ use Rattle.cave_words.specs.declared.meaning.Class.TheVariants.{Object}
 use Rattle.cave_words.specs.declared.meaning.Meaning.{Meaning}
 use Rattle.cave_words.specs.declared.meanings.Meanings.{Meanings}
 use Rattle.cave_words.specs.declared.named.Named.{Named}
-use Rattle.cave_words.specs.declared.named.Named.TheVariants as name
 use Rattle.cave_words.specs.declared.named.TheConstants.{EACH_NAME}
 
 pub finds : (cave : CaveView) (lexicon : LexiconView) (word : List ℕ)
@@ -43,7 +42,7 @@ object_of_word_means cave index written is =
 -- the object of each name is at the number of the name
 at_number : {K : Type 0} (f : Named → K) (d : K) (n : Named)
     → get_or (map f EACH_NAME) (name_number n) d ≡ f n
-at_number f d name.Keys = refl
+at_number f d Named.Keys = refl
 at_number f d _ = refl
 
 -- lookups in what is kept of the rows are those of the cave

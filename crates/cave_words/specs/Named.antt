@@ -9,28 +9,27 @@ use Rattle.cave_words.specs.Words.{word_of, NAME_LETTERS}
 use Rattle.cave_words.specs.declared.meaning.Class.TheVariants.{Object}
 use Rattle.cave_words.specs.contracts.named.Named.{the_type}
 use Rattle.cave_words.specs.declared.named.Named.{Named}
-use Rattle.cave_words.specs.declared.named.Named.TheVariants as name
 use Rattle.base_lines.specs.Numbers.{LAST_OBJECT}
 
 -- each name with its word, in the order of their numbers
 abbrev pub NAME_ROWS : List (Named × List ℕ)
 NAME_ROWS =
-    (name.Keys, codes "KEYS") ∷ (name.Lamp, codes "LAMP") ∷ (name.Grate, codes "GRATE")
-    ∷ (name.Cage, codes "CAGE") ∷ (name.Rod, codes "ROD") ∷ (name.Steps, codes "STEPS")
-    ∷ (name.Bird, codes "BIRD") ∷ (name.Door, codes "DOOR") ∷ (name.Pillow, codes "PILLO")
-    ∷ (name.Snake, codes "SNAKE") ∷ (name.Fissure, codes "FISSU") ∷ (name.Tablet, codes "TABLE")
-    ∷ (name.Clam, codes "CLAM") ∷ (name.Oyster, codes "OYSTE") ∷ (name.Magazine, codes "MAGAZ")
-    ∷ (name.Dwarf, codes "DWARF") ∷ (name.Knife, codes "KNIFE") ∷ (name.Food, codes "FOOD")
-    ∷ (name.Bottle, codes "BOTTL") ∷ (name.Water, codes "WATER") ∷ (name.Oil, codes "OIL")
-    ∷ (name.Plant, codes "PLANT") ∷ (name.Axe, codes "AXE") ∷ (name.Mirror, codes "MIRRO")
-    ∷ (name.Dragon, codes "DRAGO") ∷ (name.Chasm, codes "CHASM") ∷ (name.Troll, codes "TROLL")
-    ∷ (name.Bear, codes "BEAR") ∷ (name.Message, codes "MESSA") ∷ (name.Vending, codes "VENDI")
-    ∷ (name.Batteries, codes "BATTE") ∷ (name.Gold, codes "GOLD") ∷ (name.Coins, codes "COINS")
-    ∷ (name.Chest, codes "CHEST") ∷ (name.Eggs, codes "EGGS") ∷ (name.Trident, codes "TRIDE")
-    ∷ (name.Vase, codes "VASE") ∷ (name.Emerald, codes "EMERA") ∷ (name.Pyramid, codes "PYRAM")
-    ∷ (name.Pearl, codes "PEARL") ∷ (name.Rug, codes "RUG") ∷ (name.Spices, codes "SPICE")
-    ∷ (name.Chain, codes "CHAIN") ∷ (name.SecondRod, codes "ROD")
-    ∷ (name.SecondPlant, codes "PLANT") ∷ (name.SecondTroll, codes "TROLL") ∷ []
+    (Named.Keys, codes "KEYS") ∷ (Named.Lamp, codes "LAMP") ∷ (Named.Grate, codes "GRATE")
+    ∷ (Named.Cage, codes "CAGE") ∷ (Named.Rod, codes "ROD") ∷ (Named.Steps, codes "STEPS")
+    ∷ (Named.Bird, codes "BIRD") ∷ (Named.Door, codes "DOOR") ∷ (Named.Pillow, codes "PILLO")
+    ∷ (Named.Snake, codes "SNAKE") ∷ (Named.Fissure, codes "FISSU") ∷ (Named.Tablet, codes "TABLE")
+    ∷ (Named.Clam, codes "CLAM") ∷ (Named.Oyster, codes "OYSTE") ∷ (Named.Magazine, codes "MAGAZ")
+    ∷ (Named.Dwarf, codes "DWARF") ∷ (Named.Knife, codes "KNIFE") ∷ (Named.Food, codes "FOOD")
+    ∷ (Named.Bottle, codes "BOTTL") ∷ (Named.Water, codes "WATER") ∷ (Named.Oil, codes "OIL")
+    ∷ (Named.Plant, codes "PLANT") ∷ (Named.Axe, codes "AXE") ∷ (Named.Mirror, codes "MIRRO")
+    ∷ (Named.Dragon, codes "DRAGO") ∷ (Named.Chasm, codes "CHASM") ∷ (Named.Troll, codes "TROLL")
+    ∷ (Named.Bear, codes "BEAR") ∷ (Named.Message, codes "MESSA") ∷ (Named.Vending, codes "VENDI")
+    ∷ (Named.Batteries, codes "BATTE") ∷ (Named.Gold, codes "GOLD") ∷ (Named.Coins, codes "COINS")
+    ∷ (Named.Chest, codes "CHEST") ∷ (Named.Eggs, codes "EGGS") ∷ (Named.Trident, codes "TRIDE")
+    ∷ (Named.Vase, codes "VASE") ∷ (Named.Emerald, codes "EMERA") ∷ (Named.Pyramid, codes "PYRAM")
+    ∷ (Named.Pearl, codes "PEARL") ∷ (Named.Rug, codes "RUG") ∷ (Named.Spices, codes "SPICE")
+    ∷ (Named.Chain, codes "CHAIN") ∷ (Named.SecondRod, codes "ROD")
+    ∷ (Named.SecondPlant, codes "PLANT") ∷ (Named.SecondTroll, codes "TROLL") ∷ []
 
 unfoldable pub each_name : List Named
 each_name = map (λ row. row.0) NAME_ROWS
@@ -44,9 +43,9 @@ name_number n = tag_of the_type n
 
 -- the object after the one that the word names
 abbrev pub is_second : Named → Bool
-is_second name.SecondRod = true
-is_second name.SecondPlant = true
-is_second name.SecondTroll = true
+is_second Named.SecondRod = true
+is_second Named.SecondPlant = true
+is_second Named.SecondTroll = true
 is_second _ = false
 
 unfoldable pub word_of_name : Named → List ℕ

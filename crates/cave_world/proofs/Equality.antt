@@ -1,14 +1,15 @@
 -- `==` holds exactly if values are equal, field by field up to whole states.
-use Rattle.std.proofs.Common.{◌≡◌, Bool, Option, Some, None, refl, sym, ap}
+use Rattle.std.proofs.Common.{◌≡◌, Bool, Option, Some, None, refl, sym, ap, rules}
 use Rattle.std.specs.Prelude.{◌↔◌, IsTrue}
 use Rattle.std.specs.Bool.{Decides}
 use Rattle.std.specs.Option.{option_eq, is_some, unwrap_or}
-use Rattle.std.specs.Cmp.{unsigned_Decides, signed_Decides, booleans_Decides}
-use Rattle.std.specs.Cmp.Lexicographic.{pointwise_decides}
+use Rattle.std.specs.Cmp.{unsigned_Decides}
 use Rattle.std.proofs.lemmas.Bool.{false≢true}
-use Rattle.std.proofs.lemmas.Bool.Decides.{Decides-and, Decides-like}
+use Rattle.base_lines.specs.Equality.{TellsApart, told_apart, told_struct}
 use Rattle.world_objects.proofs.SameObjects.{objects_decides}
 use Rattle.world_objects.specs.Lists.{AreLists}
+use Rattle.world_objects.specs.contracts.objects.ObjectsPartialEq.TheImpl as objects_eq
+use Rattle.world_objects.specs.declared.objects.Objects.{Objects}
 use Rattle.cave_world.proofs.SameGame.{same_state}
 use Rattle.cave_world.specs.SameGame.{IsSameGame}
 use Rattle.cave_world.specs.declared.dwarves.Knife.{Knife}
@@ -23,9 +24,6 @@ use Rattle.cave_world.specs.declared.dwarves.Dwarves.{Dwarves}
 use Rattle.cave_world.specs.declared.talk.Talk.{Talk}
 use Rattle.cave_world.specs.declared.hints.Hints.{Hints}
 use Rattle.cave_world.specs.declared.state.State.{State}
-use Rattle.cave_world.specs.declared.dwarves.Knife.TheVariants as knife
-use Rattle.cave_world.specs.declared.ending.Question.TheVariants as question
-use Rattle.cave_world.specs.declared.ending.Ending.TheVariants as ending
 use Rattle.cave_world.specs.contracts.dwarves.KnifePartialEq.TheImpl as knife_eq
 use Rattle.cave_world.specs.contracts.ending.QuestionPartialEq.TheImpl as question_eq
 use Rattle.cave_world.specs.contracts.ending.EndingPartialEq.TheImpl as ending_eq
@@ -38,8 +36,17 @@ use Rattle.cave_world.specs.contracts.dwarves.DwarvesPartialEq.TheImpl as dwarve
 use Rattle.cave_world.specs.contracts.talk.TalkPartialEq.TheImpl as talk_eq
 use Rattle.cave_world.specs.contracts.hints.HintsPartialEq.TheImpl as hints_eq
 use Rattle.cave_world.specs.contracts.state.StatePartialEq.TheImpl as state_eq
+use Rattle.cave_world.specs.contracts.state.Trail as trail
+use Rattle.cave_world.specs.contracts.state.Tallies as tallies
+use Rattle.cave_world.specs.contracts.lamp.Lamp as lamp
+use Rattle.cave_world.specs.contracts.closing.Closing as closing
+use Rattle.cave_world.specs.contracts.dwarves.Dwarf as dwarf
+use Rattle.cave_world.specs.contracts.dwarves.Dwarves as dwarves
+use Rattle.cave_world.specs.contracts.talk.Talk as talk
+use Rattle.cave_world.specs.contracts.hints.Hints as hints
+use Rattle.cave_world.specs.contracts.state.State as state
 
-option_decides : {K : Type 0} (E : K → K → Bool) → ((x y : K) → Decides (E x y) (x ≡ y))
+pub option_decides : {K : Type 0} (E : K → K → Bool) → ((x y : K) → Decides (E x y) (x ≡ y))
     → (x y : Option K) → Decides (option_eq E x y) (x ≡ y)
 option_decides E d None None = (λ _. refl, λ _. refl)
 option_decides E d None (Some y) = (λ e. absurd (false≢true e), λ e. ap is_some e)
@@ -47,235 +54,105 @@ option_decides E d (Some x) None = (λ e. absurd (false≢true e), λ e. sym (ap
 option_decides E d (Some x) (Some y) =
     (λ e i. Some ((d x y).0 e i), λ e. (d x y).1 (ap (λ o. unwrap_or o x) e))
 
-knife_decides : (a b : Knife) → Decides (knife_eq.eq-value.it a b) (a ≡ b)
-knife_decides knife.Unthrown knife.Unthrown = (λ _. refl, λ _. refl)
-knife_decides (knife.At x) (knife.At y) =
-    (λ e i. knife.At ((unsigned_Decides x y).0 e i), λ e. (unsigned_Decides x y).1 cc)
-knife_decides knife.Vanished knife.Vanished = (λ _. refl, λ _. refl)
+pub knife_decides : (a b : Knife) → Decides (knife_eq.eq-value.it a b) (a ≡ b)
+knife_decides Knife.Unthrown Knife.Unthrown = (λ _. refl, λ _. refl)
+knife_decides (Knife.At x) (Knife.At y) =
+    (λ e i. Knife.At ((unsigned_Decides x y).0 e i), λ e. (unsigned_Decides x y).1 cc)
+knife_decides Knife.Vanished Knife.Vanished = (λ _. refl, λ _. refl)
 knife_decides _ _ = (λ e. absurd (false≢true e), λ e. cc)
 
-question_decides : (a b : Question) → Decides (question_eq.eq-value.it a b) (a ≡ b)
-question_decides question.Welcome question.Welcome = (λ _. refl, λ _. refl)
-question_decides question.Quit question.Quit = (λ _. refl, λ _. refl)
-question_decides question.ScoreQuit question.ScoreQuit = (λ _. refl, λ _. refl)
-question_decides question.Die question.Die = (λ _. refl, λ _. refl)
-question_decides (question.Hint x) (question.Hint y) =
-    (λ e i. question.Hint ((unsigned_Decides x y).0 e i), λ e. (unsigned_Decides x y).1 cc)
-question_decides (question.Take x) (question.Take y) =
-    (λ e i. question.Take ((unsigned_Decides x y).0 e i), λ e. (unsigned_Decides x y).1 cc)
-question_decides question.Oyster question.Oyster = (λ _. refl, λ _. refl)
-question_decides question.Dragon question.Dragon = (λ _. refl, λ _. refl)
+pub question_decides : (a b : Question) → Decides (question_eq.eq-value.it a b) (a ≡ b)
+question_decides Question.Welcome Question.Welcome = (λ _. refl, λ _. refl)
+question_decides Question.Quit Question.Quit = (λ _. refl, λ _. refl)
+question_decides Question.ScoreQuit Question.ScoreQuit = (λ _. refl, λ _. refl)
+question_decides Question.Die Question.Die = (λ _. refl, λ _. refl)
+question_decides (Question.Hint x) (Question.Hint y) =
+    (λ e i. Question.Hint ((unsigned_Decides x y).0 e i), λ e. (unsigned_Decides x y).1 cc)
+question_decides (Question.Take x) (Question.Take y) =
+    (λ e i. Question.Take ((unsigned_Decides x y).0 e i), λ e. (unsigned_Decides x y).1 cc)
+question_decides Question.Oyster Question.Oyster = (λ _. refl, λ _. refl)
+question_decides Question.Dragon Question.Dragon = (λ _. refl, λ _. refl)
 question_decides _ _ = (λ e. absurd (false≢true e), λ e. cc)
 
-ending_decides : (a b : Ending) → Decides (ending_eq.eq-value.it a b) (a ≡ b)
-ending_decides ending.Quit ending.Quit = (λ _. refl, λ _. refl)
-ending_decides ending.Killed ending.Killed = (λ _. refl, λ _. refl)
-ending_decides ending.Klutz ending.Klutz = (λ _. refl, λ _. refl)
-ending_decides ending.WrongWay ending.WrongWay = (λ _. refl, λ _. refl)
-ending_decides ending.Success ending.Success = (λ _. refl, λ _. refl)
+pub ending_decides : (a b : Ending) → Decides (ending_eq.eq-value.it a b) (a ≡ b)
+ending_decides Ending.Quit Ending.Quit = (λ _. refl, λ _. refl)
+ending_decides Ending.Killed Ending.Killed = (λ _. refl, λ _. refl)
+ending_decides Ending.Klutz Ending.Klutz = (λ _. refl, λ _. refl)
+ending_decides Ending.WrongWay Ending.WrongWay = (λ _. refl, λ _. refl)
+ending_decides Ending.Success Ending.Success = (λ _. refl, λ _. refl)
 ending_decides _ _ = (λ e. absurd (false≢true e), λ e. cc)
 
-trail_decides : (a b : Trail) → Decides (trail_eq.eq-value.it a b) (a ≡ b)
-trail_decides a b =
-    Decides-like _
-    (λ h i.
-    let (here, (last, older)) = h in
-    record { here = here i; last = last i; older = older i })
-    (λ e. (
-      ap (λ (s : Trail). s.here) e,
-      (ap (λ (s : Trail). s.last) e, ap (λ (s : Trail). s.older) e),
-    ))
-    (Decides-and _ _ (unsigned_Decides a.here b.here)
-    (Decides-and _ _ (unsigned_Decides a.last b.last) (unsigned_Decides a.older b.older)))
+by_option : {A : Type 0} {E : A → A → Bool} → ((a b : A) → TellsApart (E a b) a b)
+    → (a b : Option A) → TellsApart (option_eq E a b) a b
+by_option each a b =
+    record { decides = option_decides _ (λ x y. (each x y).decides) a b }
 
-tallies_decides : (a b : Tallies) → Decides (tallies_eq.eq-value.it a b) (a ≡ b)
-tallies_decides a b =
-    Decides-like _
-    (λ h i.
-    let (unseen, (lost, deaths)) = h in
-    record { unseen = unseen i; lost = lost i; deaths = deaths i })
-    (λ e. (
-      ap (λ (s : Tallies). s.unseen) e,
-      (ap (λ (s : Tallies). s.lost) e, ap (λ (s : Tallies). s.deaths) e),
-    ))
-    (Decides-and _ _ (unsigned_Decides a.unseen b.unseen)
-    (Decides-and _ _ (unsigned_Decides a.lost b.lost) (unsigned_Decides a.deaths b.deaths)))
+by_knife : (a b : Knife) → TellsApart (knife_eq.eq-value.it a b) a b
+by_knife a b = record { decides = knife_decides a b }
 
-lamp_decides : (a b : Lamp) → Decides (lamp_eq.eq-value.it a b) (a ≡ b)
-lamp_decides a b =
-    Decides-like _
-    (λ h i.
-    let (charge, is_warned) = h in
-    record { charge = charge i; is_warned = is_warned i })
-    (λ e. (ap (λ (s : Lamp). s.charge) e, ap (λ (s : Lamp). s.is_warned) e))
-    (Decides-and _ _ (signed_Decides a.charge b.charge) (booleans_Decides a.is_warned b.is_warned))
+by_question : (a b : Question) → TellsApart (question_eq.eq-value.it a b) a b
+by_question a b = record { decides = question_decides a b }
 
-closing_decides : (a b : Closing) → Decides (closing_eq.eq-value.it a b) (a ≡ b)
-closing_decides a b =
-    Decides-like _
-    (λ h i.
-    let (first_clock, (second_clock, (is_closing, (is_closed, is_panicking)))) = h in
-    record {
-      first_clock = first_clock i;
-      second_clock = second_clock i;
-      is_closing = is_closing i;
-      is_closed = is_closed i;
-      is_panicking = is_panicking i;
-    })
-    (λ e. (
-      ap (λ (s : Closing). s.first_clock) e,
-      (
-        ap (λ (s : Closing). s.second_clock) e,
-        (
-          ap (λ (s : Closing). s.is_closing) e,
-          (ap (λ (s : Closing). s.is_closed) e, ap (λ (s : Closing). s.is_panicking) e),
-        ),
-      ),
-    ))
-    (Decides-and _ _ (signed_Decides a.first_clock b.first_clock)
-    (Decides-and _ _ (signed_Decides a.second_clock b.second_clock)
-    (Decides-and _ _ (booleans_Decides a.is_closing b.is_closing)
-    (Decides-and _ _ (booleans_Decides a.is_closed b.is_closed)
-    (booleans_Decides a.is_panicking b.is_panicking)))))
+by_ending : (a b : Ending) → TellsApart (ending_eq.eq-value.it a b) a b
+by_ending a b = record { decides = ending_decides a b }
 
-dwarf_decides : (a b : Dwarf) → Decides (dwarf_eq.eq-value.it a b) (a ≡ b)
-dwarf_decides a b =
-    Decides-like _
-    (λ h i.
-    let (place, (last, has_seen)) = h in
-    record { place = place i; last = last i; has_seen = has_seen i })
-    (λ e. (
-      ap (λ (s : Dwarf). s.place) e,
-      (ap (λ (s : Dwarf). s.last) e, ap (λ (s : Dwarf). s.has_seen) e),
-    ))
-    (Decides-and _ _ (unsigned_Decides a.place b.place)
-    (Decides-and _ _ (unsigned_Decides a.last b.last) (booleans_Decides a.has_seen b.has_seen)))
+by_objects : (a b : Objects) → TellsApart (objects_eq.eq-value.it a b) a b
+by_objects a b = record { decides = objects_decides a b }
 
-dwarves_decides : (a b : Dwarves) → Decides (dwarves_eq.eq-value.it a b) (a ≡ b)
-dwarves_decides a b =
-    Decides-like _
-    (λ h i.
-    let (anger, (kills, (knife, each))) = h in
-    record { anger = anger i; kills = kills i; knife = knife i; each = each i })
-    (λ e. (
-      ap (λ (s : Dwarves). s.anger) e,
-      (
-        ap (λ (s : Dwarves). s.kills) e,
-        (ap (λ (s : Dwarves). s.knife) e, ap (λ (s : Dwarves). s.each) e),
-      ),
-    ))
-    (Decides-and _ _ (unsigned_Decides a.anger b.anger)
-    (Decides-and _ _ (unsigned_Decides a.kills b.kills)
-    (Decides-and _ _ (knife_decides a.knife b.knife)
-    (pointwise_decides dwarf_decides a.each b.each))))
+ruleset parts = (told_apart, by_option, by_knife, by_question, by_ending, by_objects)
 
-talk_decides : (a b : Talk) → Decides (talk_eq.eq-value.it a b) (a ≡ b)
-talk_decides a b =
-    Decides-like _
-    (λ h i.
-    let (verb, (object, (last, (is_brief, (details, magic))))) = h in
-    record {
-      verb = verb i;
-      object = object i;
-      last = last i;
-      is_brief = is_brief i;
-      details = details i;
-      magic = magic i;
-    })
-    (λ e. (
-      ap (λ (s : Talk). s.verb) e,
-      (
-        ap (λ (s : Talk). s.object) e,
-        (
-          ap (λ (s : Talk). s.last) e,
-          (
-            ap (λ (s : Talk). s.is_brief) e,
-            (ap (λ (s : Talk). s.details) e, ap (λ (s : Talk). s.magic) e),
-          ),
-        ),
-      ),
-    ))
-    (Decides-and _ _ (option_decides _ (unsigned_Decides) a.verb b.verb)
-    (Decides-and _ _ (unsigned_Decides a.object b.object)
-    (Decides-and _ _ (unsigned_Decides a.last b.last)
-    (Decides-and _ _ (booleans_Decides a.is_brief b.is_brief)
-    (Decides-and _ _ (unsigned_Decides a.details b.details)
-    (signed_Decides a.magic b.magic))))))
+by_trail : (a b : Trail) → TellsApart (trail_eq.eq-value.it a b) a b
+by_trail a b =
+    told_struct trail.the_type {E = trail_eq.eq-value.it} (Prim.search (parts, rules) depth 40) a b
 
-hints_decides : (a b : Hints) → Decides (hints_eq.eq-value.it a b) (a ≡ b)
-hints_decides a b =
-    Decides-like _
-    (λ h i.
-    let (turns, is_taken) = h in
-    record { turns = turns i; is_taken = is_taken i })
-    (λ e. (ap (λ (s : Hints). s.turns) e, ap (λ (s : Hints). s.is_taken) e))
-    (Decides-and _ _ (pointwise_decides unsigned_Decides a.turns b.turns)
-    (pointwise_decides booleans_Decides a.is_taken b.is_taken))
+by_tallies : (a b : Tallies) → TellsApart (tallies_eq.eq-value.it a b) a b
+by_tallies a b =
+    told_struct tallies.the_type {E = tallies_eq.eq-value.it} (Prim.search (parts, rules) depth 40) a b
+
+by_lamp : (a b : Lamp) → TellsApart (lamp_eq.eq-value.it a b) a b
+by_lamp a b =
+    told_struct lamp.the_type {E = lamp_eq.eq-value.it} (Prim.search (parts, rules) depth 40) a b
+
+by_closing : (a b : Closing) → TellsApart (closing_eq.eq-value.it a b) a b
+by_closing a b =
+    told_struct closing.the_type {E = closing_eq.eq-value.it} (Prim.search (parts, rules) depth 40) a b
+
+pub by_dwarf : (a b : Dwarf) → TellsApart (dwarf_eq.eq-value.it a b) a b
+by_dwarf a b =
+    told_struct dwarf.the_type {E = dwarf_eq.eq-value.it} (Prim.search (parts, rules) depth 40) a b
+
+ruleset of_dwarves = (parts, by_dwarf)
+
+by_dwarves : (a b : Dwarves) → TellsApart (dwarves_eq.eq-value.it a b) a b
+by_dwarves a b =
+    told_struct dwarves.the_type {E = dwarves_eq.eq-value.it} (Prim.search (of_dwarves, rules) depth 40) a b
+
+by_talk : (a b : Talk) → TellsApart (talk_eq.eq-value.it a b) a b
+by_talk a b =
+    told_struct talk.the_type {E = talk_eq.eq-value.it} (Prim.search (parts, rules) depth 40) a b
+
+pub by_hints : (a b : Hints) → TellsApart (hints_eq.eq-value.it a b) a b
+by_hints a b =
+    told_struct hints.the_type {E = hints_eq.eq-value.it} (Prim.search (parts, rules) depth 40) a b
+
+ruleset of_a_state = (
+  parts,
+  by_trail,
+  by_tallies,
+  by_lamp,
+  by_closing,
+  by_dwarves,
+  by_talk,
+  by_hints,
+)
+
+by_state : (a b : State) → TellsApart (state_eq.eq-value.it a b) a b
+by_state a b =
+    told_struct state.the_type {E = state_eq.eq-value.it} (Prim.search (of_a_state, rules) depth 40) a b
 
 -- `==` holds of two states exactly if they are equal in every field
 pub state_equality : (a b : State) → IsTrue (state_eq.eq-value.it a b) ↔ (a ≡ b)
-state_equality a b =
-    Decides-like _
-    (λ h i.
-    let (trail, (objects, (visits, (lamp, (closing, others))))) = h in
-    let (tallies, (talk, (dwarves, (hints, (question, (ending, stream)))))) = others in
-    record {
-      trail = trail i;
-      objects = objects i;
-      visits = visits i;
-      lamp = lamp i;
-      closing = closing i;
-      tallies = tallies i;
-      talk = talk i;
-      dwarves = dwarves i;
-      hints = hints i;
-      question = question i;
-      ending = ending i;
-      stream = stream i;
-    })
-    (λ e. (
-      ap (λ (s : State). s.trail) e,
-      (
-        ap (λ (s : State). s.objects) e,
-        (
-          ap (λ (s : State). s.visits) e,
-          (
-            ap (λ (s : State). s.lamp) e,
-            (
-              ap (λ (s : State). s.closing) e,
-              (
-                ap (λ (s : State). s.tallies) e,
-                (
-                  ap (λ (s : State). s.talk) e,
-                  (
-                    ap (λ (s : State). s.dwarves) e,
-                    (
-                      ap (λ (s : State). s.hints) e,
-                      (
-                        ap (λ (s : State). s.question) e,
-                        (ap (λ (s : State). s.ending) e, ap (λ (s : State). s.stream) e),
-                      ),
-                    ),
-                  ),
-                ),
-              ),
-            ),
-          ),
-        ),
-      ),
-    ))
-    (Decides-and _ _ (trail_decides a.trail b.trail)
-    (Decides-and _ _ (objects_decides a.objects b.objects)
-    (Decides-and _ _ (pointwise_decides unsigned_Decides a.visits b.visits)
-    (Decides-and _ _ (lamp_decides a.lamp b.lamp)
-    (Decides-and _ _ (closing_decides a.closing b.closing)
-    (Decides-and _ _ (tallies_decides a.tallies b.tallies)
-    (Decides-and _ _ (talk_decides a.talk b.talk)
-    (Decides-and _ _ (dwarves_decides a.dwarves b.dwarves)
-    (Decides-and _ _ (hints_decides a.hints b.hints)
-    (Decides-and _ _ (option_decides _ (question_decides) a.question b.question)
-    (Decides-and _ _ (option_decides _ (ending_decides) a.ending b.ending)
-    (unsigned_Decides a.stream b.stream))))))))))))
+state_equality a b = (by_state a b).decides
 
 -- `==` holds of two states exactly if everything but the lists of objects is equal, and so is the
 -- list of each place; the lists of every state that a program makes are in order

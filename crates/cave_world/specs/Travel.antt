@@ -6,9 +6,7 @@ use Rattle.std.specs.List.{list_any}
 use Rattle.data_rows.specs.Rows.{Going}
 use Rattle.data_rows.specs.Targets.{condition_of, destination_of}
 use Rattle.data_rows.specs.declared.targets.Condition.{Condition}
-use Rattle.data_rows.specs.declared.targets.Condition.TheVariants as condition
 use Rattle.data_rows.specs.declared.targets.Destination.{Destination}
-use Rattle.data_rows.specs.declared.targets.Destination.TheVariants as destination
 use Rattle.cave_data.specs.CaveView.{CaveView, ways_from}
 use Rattle.cave_words.specs.Stream.{next, pct}
 use Rattle.cave_world.specs.Motions.{any_motion}
@@ -37,30 +35,30 @@ row_destination row = destination_of row.target
 
 -- a condition holds always, by chance, or by where objects are and what props they have
 abbrev pub holds : Condition → State → Bool
-holds condition.Always s = true
-holds condition.NotForDwarves s = true
-holds (condition.Chance percent) s = pct percent s.stream
-holds (condition.InHands object) s = is_in_hands s.objects object
-holds (condition.AtHand object) s =
+holds Condition.Always s = true
+holds Condition.NotForDwarves s = true
+holds (Condition.Chance percent) s = pct percent s.stream
+holds (Condition.InHands object) s = is_in_hands s.objects object
+holds (Condition.AtHand object) s =
     is_in_hands s.objects object || is_object_at s.objects s.trail.here object
-holds (condition.OtherProp object prop) s = not (int_eq (prop_of s.objects object) (pos prop))
+holds (Condition.OtherProp object prop) s = not (int_eq (prop_of s.objects object) (pos prop))
 
 -- a condition by chance takes a draw, and any other leaves the state as it is
 abbrev pub after_condition : Condition → State → State
-after_condition (condition.Chance percent) s = record s { stream = next s.stream }
+after_condition (Condition.Chance percent) s = record s { stream = next s.stream }
 after_condition _ s = s
 
 -- where a destination leads: nowhere if only the emerald is put down
 abbrev pub outcome_at : Destination → Option Outcome
-outcome_at (destination.Place place) = Some (Go place)
-outcome_at (destination.Special special) = Some (Special special)
-outcome_at destination.PutsEmeraldDown = None
-outcome_at destination.NoWay = Some NoWay
-outcome_at (destination.Message message) = Some (Say message)
+outcome_at (Destination.Place place) = Some (Go place)
+outcome_at (Destination.Special special) = Some (Special special)
+outcome_at Destination.PutsEmeraldDown = None
+outcome_at Destination.NoWay = Some NoWay
+outcome_at (Destination.Message message) = Some (Say message)
 
 -- the state on the way there
 abbrev pub after_go : ℕ → Destination → State → State
-after_go emerald destination.PutsEmeraldDown s =
+after_go emerald Destination.PutsEmeraldDown s =
     record s { objects = after_move_to s.objects emerald s.trail.here }
 after_go emerald _ s = s
 

@@ -12,7 +12,6 @@ use Rattle.data_rows.specs.declared.binding.Key.TheVariants.{RoleKey, PlaceKey, 
 use Rattle.check_doubts.specs.Messages.{place_has_text}
 use Rattle.check_doubts.specs.declared.bound.BoundRow.{BoundRow}
 use Rattle.check_doubts.specs.declared.flaw.CaveFlaw.{CaveFlaw}
-use Rattle.check_doubts.specs.declared.flaw.CaveFlaw.TheVariants as flaw
 use Rattle.check_doubts.specs.declared.flaw.Subject.TheVariants as subject
 
 -- the binding that a line states, if it states one
@@ -31,15 +30,15 @@ bound_rows number (line ∷ lines) =
 
 -- the message that a role is bound to has no text, or one that prints nothing
 abbrev pub message_flaw : ℕ → ℕ → Option (List ℕ) → Option CaveFlaw
-message_flaw role message None = Some (flaw.Textless (subject.MessageRole role) message)
+message_flaw role message None = Some (CaveFlaw.Textless (subject.MessageRole role) message)
 message_flaw role message (Some text) = if length text == 0
-    then Some (flaw.RoleSilent role message) else None
+    then Some (CaveFlaw.RoleSilent role message) else None
 
 module _ (cave : CaveView) where
   abbrev pub key_flaw : Key → ℕ → Option CaveFlaw
   key_flaw (RoleKey role) value = message_flaw role value (map.get cave.messages value)
   key_flaw (PlaceKey role) value = if place_has_text cave value then None
-      else Some (flaw.Textless (subject.PlaceRole role) value)
+      else Some (CaveFlaw.Textless (subject.PlaceRole role) value)
   key_flaw LettersKey value = None
 
   abbrev pub bound_flaw : BoundRow → Option CaveFlaw

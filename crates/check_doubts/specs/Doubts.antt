@@ -16,7 +16,6 @@ use Rattle.check_doubts.specs.Ways.{way_of_row}
 use Rattle.check_doubts.specs.Written.{written_flaw_at}
 use Rattle.data_lines.specs.Marks.{is_name, marked_rows}
 use Rattle.data_lines.specs.declared.mark.RowMark.{RowMark}
-use Rattle.data_lines.specs.declared.mark.RowMark.TheVariants as mark
 use Rattle.check_doubts.specs.declared.bound.BoundRow.{BoundRow}
 use Rattle.check_doubts.specs.declared.flaw.Doubt.{Doubt}
 use Rattle.check_doubts.specs.declared.flaw.CaveFlaw.{CaveFlaw}
@@ -48,9 +47,9 @@ module _ (cave : CaveView) where
 
   -- what an object lacks is doubted at the first line of its inventory text
   abbrev pub doubts_of_needs : List MarkedRow → ℕ → RowMark → List Doubt
-  doubts_of_needs before line (mark.Name object) =
+  doubts_of_needs before line (RowMark.Name object) =
       if list_any (is_name object) before then [] else doubts_of_object line object
-  doubts_of_needs before line (mark.Way place) =
+  doubts_of_needs before line (RowMark.Way place) =
       doubts_of_passage line (way_of_row cave place before)
   doubts_of_needs before line _ = []
 

@@ -6,7 +6,6 @@ use Rattle.base_lines.specs.Numbers.{LAST_ACTION}
 use Rattle.data_rows.specs.Rows.{ACTION_WORDS}
 use Rattle.check_doubts.specs.Messages.{lacks_text}
 use Rattle.check_doubts.specs.declared.flaw.CaveFlaw.{CaveFlaw}
-use Rattle.check_doubts.specs.declared.flaw.CaveFlaw.TheVariants as flaw
 use Rattle.check_doubts.specs.declared.flaw.Subject.TheVariants as subject
 
 -- hints from 4 on are given at places, and the others by rules of their own
@@ -19,13 +18,13 @@ lacks_message hint message = is_placed_hint hint && message == 0
 
 abbrev pub question_flaw : CaveView → ℕ → ℕ → Option CaveFlaw
 question_flaw cave hint question =
-    if lacks_text cave question then Some (flaw.Textless (subject.Asking hint) question)
-    else (if lacks_message hint question then Some (flaw.AsksNothing hint) else None)
+    if lacks_text cave question then Some (CaveFlaw.Textless (subject.Asking hint) question)
+    else (if lacks_message hint question then Some (CaveFlaw.AsksNothing hint) else None)
 
 abbrev pub gift_flaw : CaveView → ℕ → ℕ → Option CaveFlaw
 gift_flaw cave hint text =
-    if lacks_text cave text then Some (flaw.Textless (subject.Giving hint) text)
-    else (if lacks_message hint text then Some (flaw.GivesNothing hint) else None)
+    if lacks_text cave text then Some (CaveFlaw.Textless (subject.Giving hint) text)
+    else (if lacks_message hint text then Some (CaveFlaw.GivesNothing hint) else None)
 
 -- the action is possible, and no word means it
 abbrev pub is_wordless : CaveView → ℕ → Bool

@@ -6,10 +6,8 @@ use Rattle.data_rows.specs.PlaceRole.{PLACE_NAMES}
 use Rattle.data_rows.specs.Role.{ROLE_NAMES}
 use Rattle.check_doubts.specs.declared.flaw.Doubt.{Doubt}
 use Rattle.check_doubts.specs.declared.flaw.CaveFlaw.{CaveFlaw}
-use Rattle.check_doubts.specs.declared.flaw.CaveFlaw.TheVariants as flaw
 use Rattle.check_doubts.specs.declared.flaw.Source.{Source}
 use Rattle.check_doubts.specs.declared.flaw.Subject.{Subject}
-use Rattle.check_doubts.specs.declared.flaw.Subject.TheVariants as subject
 use Rattle.check_doubts.specs.declared.flaw.Source.TheVariants.{Database, Bindings}
 use Rattle.check_doubts.specs.declared.listing.DoubtFiles.{DoubtFiles}
 
@@ -21,58 +19,58 @@ place_role_name role = slice_index_or PLACE_NAMES role []
 
 -- what is said of what names a place or a message
 abbrev pub subject_words : Subject → List ℕ
-subject_words subject.WayTo = codes "the way leads to place"
-subject_words subject.WaySays = codes "the way says message"
-subject_words (subject.Treasure object) =
+subject_words Subject.WayTo = codes "the way leads to place"
+subject_words Subject.WaySays = codes "the way says message"
+subject_words (Subject.Treasure object) =
     codes "treasure " ++ (decimal object ++ codes " begins at place")
-subject_words (subject.Needed object) =
+subject_words (Subject.Needed object) =
     codes "object " ++ (decimal object ++ codes ", which players need, begins at place")
-subject_words (subject.Action action) =
+subject_words (Subject.Action action) =
     codes "action " ++ (decimal action ++ codes " says message")
-subject_words (subject.Asking hint) = codes "hint " ++ (decimal hint ++ codes " asks by message")
-subject_words (subject.Giving hint) = codes "hint " ++ (decimal hint ++ codes " gives message")
-subject_words (subject.MessageRole role) = codes "msg." ++ (role_name role ++ codes " is message")
-subject_words (subject.PlaceRole role) =
+subject_words (Subject.Asking hint) = codes "hint " ++ (decimal hint ++ codes " asks by message")
+subject_words (Subject.Giving hint) = codes "hint " ++ (decimal hint ++ codes " gives message")
+subject_words (Subject.MessageRole role) = codes "msg." ++ (role_name role ++ codes " is message")
+subject_words (Subject.PlaceRole role) =
     codes "place." ++ (place_role_name role ++ codes " is place")
 
 -- what is said about each kind of doubt
 abbrev pub words : CaveFlaw → List ℕ
-words (flaw.NoWayTo place) = codes "no way leads to place " ++ decimal place
-words (flaw.Textless subject number) =
+words (CaveFlaw.NoWayTo place) = codes "no way leads to place " ++ decimal place
+words (CaveFlaw.Textless subject number) =
     subject_words subject ++ (codes " " ++ (decimal number ++ codes ", which has no text"))
-words (flaw.HasNoRule number) =
+words (CaveFlaw.HasNoRule number) =
     codes "the way leads to " ++ (decimal number ++ codes ", for which there is no rule")
-words flaw.NeverTaken = codes "no player takes this way: an earlier one is always taken"
-words flaw.Hidden = codes "an earlier row of this word hides it"
-words (flaw.Nowhere object) = codes "no place holds treasure " ++ decimal object
-words (flaw.Nameless object) =
+words CaveFlaw.NeverTaken = codes "no player takes this way: an earlier one is always taken"
+words CaveFlaw.Hidden = codes "an earlier row of this word hides it"
+words (CaveFlaw.Nowhere object) = codes "no place holds treasure " ++ decimal object
+words (CaveFlaw.Nameless object) =
     codes "treasure " ++ (decimal object ++ codes " has no inventory text")
-words (flaw.Unplaced object) =
+words (CaveFlaw.Unplaced object) =
     codes "no place holds object " ++ (decimal object ++ codes ", which players need")
-words (flaw.PropTextless object prop) =
+words (CaveFlaw.PropTextless object prop) =
     codes "object " ++ (decimal object
     ++ (codes " has no text for prop " ++ (decimal prop ++ codes ", which rules need")))
-words (flaw.PlaceUnbound role object) =
+words (CaveFlaw.PlaceUnbound role object) =
     codes "rules about object " ++ (decimal object
     ++ (codes " need place." ++ (place_role_name role ++ codes ", which is unbound")))
-words (flaw.EndUnbound role) =
+words (CaveFlaw.EndUnbound role) =
     codes "the way leads to 301, which needs place." ++ (place_role_name role
     ++ codes ", which is unbound")
-words (flaw.Wordless action) = codes "no word means action " ++ decimal action
-words flaw.TakenClass = codes "an earlier class takes its scores"
-words flaw.UnscoredClass = codes "no score reaches this class"
-words (flaw.Classless score) = codes "no class has the greatest score, " ++ decimal score
-words (flaw.AsksNothing hint) = codes "hint " ++ (decimal hint ++ codes " asks by no message")
-words (flaw.GivesNothing hint) = codes "hint " ++ (decimal hint ++ codes " gives no message")
-words (flaw.Rowless hint) =
+words (CaveFlaw.Wordless action) = codes "no word means action " ++ decimal action
+words CaveFlaw.TakenClass = codes "an earlier class takes its scores"
+words CaveFlaw.UnscoredClass = codes "no score reaches this class"
+words (CaveFlaw.Classless score) = codes "no class has the greatest score, " ++ decimal score
+words (CaveFlaw.AsksNothing hint) = codes "hint " ++ (decimal hint ++ codes " asks by no message")
+words (CaveFlaw.GivesNothing hint) = codes "hint " ++ (decimal hint ++ codes " gives no message")
+words (CaveFlaw.Rowless hint) =
     codes "hint " ++ (decimal hint ++ codes " has places here, but no row in section 11")
-words flaw.TextOfBlanks = codes "no tab is before this text, and it begins with blanks"
-words flaw.TabPrinted = codes "a blank is before this text's tab, which is printed"
-words flaw.NotSilent = codes "this is printed, since more than >$< is there"
-words (flaw.RoleSilent role message) =
+words CaveFlaw.TextOfBlanks = codes "no tab is before this text, and it begins with blanks"
+words CaveFlaw.TabPrinted = codes "a blank is before this text's tab, which is printed"
+words CaveFlaw.NotSilent = codes "this is printed, since more than >$< is there"
+words (CaveFlaw.RoleSilent role message) =
     codes "msg." ++ (role_name role
     ++ (codes " is message " ++ (decimal message ++ codes ", whose text prints nothing")))
-words (flaw.SaidNowhere role place) =
+words (CaveFlaw.SaidNowhere role place) =
     codes "msg." ++ (role_name role
     ++ (codes " is said at place." ++ (place_role_name place ++ codes ", which is unbound")))
 

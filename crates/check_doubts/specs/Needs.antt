@@ -7,7 +7,6 @@ use Rattle.std.specs.List.{list_any}
 use Rattle.cave_data.specs.CaveView.{CaveView, look_of, placement_of, ways_from}
 use Rattle.cave_words.specs.Named.{object_named}
 use Rattle.cave_words.specs.declared.named.Named.{Named}
-use Rattle.cave_words.specs.declared.named.Named.TheVariants as name
 use Rattle.data_rows.specs.PlaceRole.{place_number}
 use Rattle.data_rows.specs.Role.{role_number}
 use Rattle.data_rows.specs.Rows.{Going}
@@ -17,7 +16,6 @@ use Rattle.data_rows.specs.declared.place_role.PlaceRole.{PlaceRole}
 use Rattle.data_rows.specs.declared.place_role.PlaceRole.TheVariants as role
 use Rattle.data_rows.specs.declared.role.Role.TheVariants.{Hollow}
 use Rattle.data_rows.specs.declared.targets.Destination.{Destination}
-use Rattle.data_rows.specs.declared.targets.Destination.TheVariants as destination
 use Rattle.data_rows.specs.declared.targets.Special.TheVariants.{Squeeze}
 use Rattle.cave_world.specs.Travel.{row_destination}
 use Rattle.turn_scene.specs.Treasures.{is_treasure}
@@ -25,7 +23,6 @@ use Rattle.check_tables.specs.Unused.{is_number, place_numbers}
 use Rattle.check_doubts.specs.Treasures.{is_placed}
 use Rattle.check_doubts.specs.Ways.{is_textless_end}
 use Rattle.check_doubts.specs.declared.flaw.CaveFlaw.{CaveFlaw}
-use Rattle.check_doubts.specs.declared.flaw.CaveFlaw.TheVariants as flaw
 use Rattle.check_doubts.specs.declared.flaw.Subject.TheVariants as subject
 use Rattle.check_doubts.specs.declared.needs.Need.{Need}
 use Rattle.check_doubts.specs.declared.needs.Need.TheVariants.{Brought, Found, Placed, Prop, Role}
@@ -39,33 +36,33 @@ use Rattle.data_rows.specs.Targets.{destination_of, leads_to_place}
 -- both marks
 unfoldable pub needs : List Need
 needs =
-    Placed ∷ Brought name.SecondRod ∷ Brought name.Oyster ∷ Brought name.Axe
-    ∷ Brought name.SecondTroll ∷ Brought name.Message ∷ Brought name.Batteries ∷ Brought name.Chest
-    ∷ Brought name.Pearl
-    ∷ Prop name.Lamp 1 ∷ Prop name.Grate 1
-    ∷ Role name.Rod role.Ne ∷ Role name.Rod role.Sw
-    ∷ Prop name.Bird 1 ∷ Prop name.Door 1 ∷ Prop name.Fissure 1 ∷ Prop name.Fissure 2
-    ∷ Prop name.Oyster 1
-    ∷ Role name.Magazine role.Witt
-    ∷ Role name.Dwarf role.Dwarf1 ∷ Role name.Dwarf role.Dwarf2 ∷ Role name.Dwarf role.Dwarf3
-    ∷ Role name.Dwarf role.Dwarf4 ∷ Role name.Dwarf role.Dwarf5 ∷ Role name.Dwarf role.Dwarfalt
-    ∷ Prop name.Bottle 1 ∷ Prop name.Bottle 2
-    ∷ Prop name.Plant 1 ∷ Prop name.Plant 2 ∷ Prop name.Plant 3 ∷ Prop name.Plant 4
-    ∷ Prop name.Plant 5
-    ∷ Prop name.SecondPlant 1 ∷ Prop name.SecondPlant 2
-    ∷ Prop name.Axe 1 ∷ Prop name.Dragon 1 ∷ Prop name.Dragon 2 ∷ Prop name.Chasm 1
-    ∷ Prop name.Troll 1
-    ∷ Prop name.Bear 1 ∷ Prop name.Bear 2 ∷ Prop name.Bear 3
-    ∷ Role name.Message role.Message
-    ∷ Prop name.Batteries 1
-    ∷ Role name.Chest role.Chest
-    ∷ Prop name.Eggs 1 ∷ Prop name.Eggs 2
-    ∷ Prop name.Vase 1 ∷ Prop name.Vase 2 ∷ Prop name.Vase 3
-    ∷ Role name.Pearl role.Culdesac
-    ∷ Found name.Rug 1 ∷ Found name.Chain 1 ∷ Prop name.Chain 2 ∷ []
+    Placed ∷ Brought Named.SecondRod ∷ Brought Named.Oyster ∷ Brought Named.Axe
+    ∷ Brought Named.SecondTroll ∷ Brought Named.Message ∷ Brought Named.Batteries ∷ Brought Named.Chest
+    ∷ Brought Named.Pearl
+    ∷ Prop Named.Lamp 1 ∷ Prop Named.Grate 1
+    ∷ Role Named.Rod role.Ne ∷ Role Named.Rod role.Sw
+    ∷ Prop Named.Bird 1 ∷ Prop Named.Door 1 ∷ Prop Named.Fissure 1 ∷ Prop Named.Fissure 2
+    ∷ Prop Named.Oyster 1
+    ∷ Role Named.Magazine role.Witt
+    ∷ Role Named.Dwarf role.Dwarf1 ∷ Role Named.Dwarf role.Dwarf2 ∷ Role Named.Dwarf role.Dwarf3
+    ∷ Role Named.Dwarf role.Dwarf4 ∷ Role Named.Dwarf role.Dwarf5 ∷ Role Named.Dwarf role.Dwarfalt
+    ∷ Prop Named.Bottle 1 ∷ Prop Named.Bottle 2
+    ∷ Prop Named.Plant 1 ∷ Prop Named.Plant 2 ∷ Prop Named.Plant 3 ∷ Prop Named.Plant 4
+    ∷ Prop Named.Plant 5
+    ∷ Prop Named.SecondPlant 1 ∷ Prop Named.SecondPlant 2
+    ∷ Prop Named.Axe 1 ∷ Prop Named.Dragon 1 ∷ Prop Named.Dragon 2 ∷ Prop Named.Chasm 1
+    ∷ Prop Named.Troll 1
+    ∷ Prop Named.Bear 1 ∷ Prop Named.Bear 2 ∷ Prop Named.Bear 3
+    ∷ Role Named.Message role.Message
+    ∷ Prop Named.Batteries 1
+    ∷ Role Named.Chest role.Chest
+    ∷ Prop Named.Eggs 1 ∷ Prop Named.Eggs 2
+    ∷ Prop Named.Vase 1 ∷ Prop Named.Vase 2 ∷ Prop Named.Vase 3
+    ∷ Role Named.Pearl role.Culdesac
+    ∷ Found Named.Rug 1 ∷ Found Named.Chain 1 ∷ Prop Named.Chain 2 ∷ []
 
 abbrev pub is_squeeze : Destination → Bool
-is_squeeze (destination.Special Squeeze) = true
+is_squeeze (Destination.Special Squeeze) = true
 is_squeeze _ = false
 
 -- a player gets by the way from the one end of the narrow passage to the other
@@ -75,7 +72,7 @@ is_squeezed (Some way) = is_squeeze (row_destination way)
 
 abbrev pub begins_at : ℕ → ℕ → CaveFlaw
 begins_at object place =
-    flaw.Textless (if is_treasure object then subject.Treasure object else subject.Needed object) place
+    CaveFlaw.Textless (if is_treasure object then subject.Treasure object else subject.Needed object) place
 
 module _ (cave : CaveView) where
   abbrev pub is_bound : PlaceRole → Bool
@@ -87,7 +84,7 @@ module _ (cave : CaveView) where
   -- the object may have a prop for which it has no text
   abbrev pub prop_flaw : ℕ → ℕ → Bool → Option CaveFlaw
   prop_flaw object prop may_have = if may_have && not (is_some (look_of cave object prop))
-      then Some (flaw.PropTextless object prop) else None
+      then Some (CaveFlaw.PropTextless object prop) else None
 
   -- an object that a place has, or gets by rules, is seen with prop 0, and some treasures first
   -- with another
@@ -99,7 +96,7 @@ module _ (cave : CaveView) where
       prop_flaw object prop (is_of object named && is_treasure object)
   need_flaw object (Prop named prop) = prop_flaw object prop (is_of object named)
   need_flaw object (Role named role) = if is_of object named && not (is_bound role)
-      then Some (flaw.PlaceUnbound (place_number role) object) else None
+      then Some (CaveFlaw.PlaceUnbound (place_number role) object) else None
 
   -- a dwarf that has a place may throw an axe
   abbrev pub has_dwarf : Bool
@@ -110,8 +107,8 @@ module _ (cave : CaveView) where
   -- players need it, and no rule brings it
   abbrev pub is_tool : ℕ → Bool
   is_tool object =
-      is_of object name.Keys || is_of object name.Lamp || is_of object name.Bird
-      || (is_of object name.Axe && not has_dwarf)
+      is_of object Named.Keys || is_of object Named.Lamp || is_of object Named.Bird
+      || (is_of object Named.Axe && not has_dwarf)
 
   -- a row is the first line of the inventory text of such an object that is nowhere
   abbrev pub is_missing : ℕ → List MarkedRow → Bool
@@ -128,12 +125,12 @@ module _ (cave : CaveView) where
   -- such a way needs the place of an end
   abbrev pub passage_flaw : PlaceRole → Option Going → Option CaveFlaw
   passage_flaw role way = if is_squeezed way && not (is_bound role)
-      then Some (flaw.EndUnbound (place_number role)) else None
+      then Some (CaveFlaw.EndUnbound (place_number role)) else None
 
   -- the hollow voice is heard at one place only
   abbrev pub voice_flaw : Key → Option CaveFlaw
   voice_flaw (RoleKey said) = if said == role_number Hollow && not (is_bound role.Y2)
-      then Some (flaw.SaidNowhere said (place_number role.Y2)) else None
+      then Some (CaveFlaw.SaidNowhere said (place_number role.Y2)) else None
   voice_flaw _ = None
 
 abbrev pub leads_to : ℕ → Going → Bool
@@ -167,7 +164,7 @@ module _ (cave : CaveView) (place : ℕ) where
 
   -- the bridge leads from one place of the troll to the other
   abbrev pub is_bridge_end : Bool
-  is_bridge_end = holds_at_first (object_named cave name.Troll)
+  is_bridge_end = holds_at_first (object_named cave Named.Troll)
 
   -- half-way between the two places where an object is as a game begins
   abbrev pub is_midway : Option ℕ → Bool
@@ -180,7 +177,7 @@ module _ (cave : CaveView) (place : ℕ) where
 
   -- a player who kills the dragon stands half-way between its places
   abbrev pub is_lair : Bool
-  is_lair = is_midway (object_named cave name.Dragon)
+  is_lair = is_midway (object_named cave Named.Dragon)
 
   abbrev pub is_come_to : Bool
   is_come_to = is_led_to || is_brought_to || is_bridge_end || is_lair

@@ -6,13 +6,11 @@ use Rattle.std.specs.List.{slice_get}
 use Rattle.cave_data.specs.CaveView.{CaveView, ways_from}
 use Rattle.data_rows.specs.Rows.{Going}
 use Rattle.data_rows.specs.declared.targets.Destination.{Destination}
-use Rattle.data_rows.specs.declared.targets.Destination.TheVariants as destination
 use Rattle.cave_world.specs.Travel.{row_destination}
 use Rattle.check_tables.specs.Reach.{may_be_taken}
 use Rattle.data_lines.specs.WayLines.{way_index}
 use Rattle.check_doubts.specs.Messages.{lacks_text, place_has_text}
 use Rattle.check_doubts.specs.declared.flaw.CaveFlaw.{CaveFlaw}
-use Rattle.check_doubts.specs.declared.flaw.CaveFlaw.TheVariants as flaw
 use Rattle.check_doubts.specs.declared.flaw.Subject.TheVariants as subject
 use Rattle.data_lines.specs.declared.mark.MarkedRow.{MarkedRow}
 
@@ -30,11 +28,11 @@ is_textless_end cave place = nat_lt 0 place && not (place_has_text cave place)
 -- a way leads to a place without a text, says a message without one, or has a special number for
 -- which there is no rule
 abbrev pub end_flaw : CaveView → ℕ → Destination → Option CaveFlaw
-end_flaw cave target (destination.Place place) =
-    if is_textless_end cave place then Some (flaw.Textless subject.WayTo place) else None
-end_flaw cave target (destination.Message message) =
-    if lacks_text cave message then Some (flaw.Textless subject.WaySays message) else None
-end_flaw cave target destination.NoWay = Some (flaw.HasNoRule (target % 1000))
+end_flaw cave target (Destination.Place place) =
+    if is_textless_end cave place then Some (CaveFlaw.Textless subject.WayTo place) else None
+end_flaw cave target (Destination.Message message) =
+    if lacks_text cave message then Some (CaveFlaw.Textless subject.WaySays message) else None
+end_flaw cave target Destination.NoWay = Some (CaveFlaw.HasNoRule (target % 1000))
 end_flaw cave target _ = None
 
 abbrev pub way_flaw : CaveView → Option Going → Option CaveFlaw

@@ -8,10 +8,8 @@ use Rattle.cave_words.specs.Meanings.{meaning, meaning_in, meaning_of, same_clas
 use Rattle.cave_words.specs.Named.{object_named}
 use Rattle.cave_words.specs.Words.{word_of}
 use Rattle.cave_words.specs.declared.meaning.Class.{Class}
-use Rattle.cave_words.specs.declared.meaning.Class.TheVariants as class
 use Rattle.cave_words.specs.declared.meaning.Meaning.{Meaning}
 use Rattle.cave_words.specs.declared.named.Named.{Named}
-use Rattle.cave_words.specs.declared.named.Named.TheVariants as name
 use Rattle.data_rows.specs.Rows.{WordEntry}
 use Rattle.data_lines.specs.Marks.{is_word_row}
 use Rattle.data_lines.specs.declared.mark.MarkedRow.{MarkedRow}
@@ -23,8 +21,8 @@ is_meant (Some found) meaning =
 
 -- rules look up objects and special words by their class too
 abbrev pub is_looked_up : Class → Bool
-is_looked_up class.Object = true
-is_looked_up class.Special = true
+is_looked_up Class.Object = true
+is_looked_up Class.Special = true
 is_looked_up _ = false
 
 module _ (cave : CaveView) where
@@ -42,19 +40,19 @@ module _ (cave : CaveView) where
   -- the one object is that of ROD, PLANT or TROLL, and the other the next one, which rules know too
   abbrev pub is_pair : ℕ → ℕ → Bool
   is_pair one other =
-      are_named one other name.Rod name.SecondRod
-      || are_named one other name.Plant name.SecondPlant
-      || are_named one other name.Troll name.SecondTroll
+      are_named one other Named.Rod Named.SecondRod
+      || are_named one other Named.Plant Named.SecondPlant
+      || are_named one other Named.Troll Named.SecondTroll
 
   -- what is found by the word is the first object of such a pair, and what the row means the second
   abbrev pub is_second_of : Option Meaning → Meaning → Bool
   is_second_of None means = false
   is_second_of (Some found) means =
-      same_class means.class class.Object && is_pair found.number means.number
+      same_class means.class Class.Object && is_pair found.number means.number
 
   abbrev pub is_hidden_word : List ℕ → Meaning → Bool
   is_hidden_word word means =
-      not (is_found word means) && not (is_second_of (meaning_in cave word class.Object) means)
+      not (is_found word means) && not (is_second_of (meaning_in cave word Class.Object) means)
 
   -- the word means something else
   abbrev pub is_hidden : Option WordEntry → Bool

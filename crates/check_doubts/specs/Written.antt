@@ -11,12 +11,10 @@ use Rattle.data_rows.specs.Fields.{after_blanks, after_field}
 use Rattle.data_rows.specs.Grammar.{closes}
 use Rattle.data_rows.specs.Rows.{condition_row}
 use Rattle.data_rows.specs.declared.error.Section.{Section}
-use Rattle.data_rows.specs.declared.error.Section.TheVariants as section
 use Rattle.data_rows.specs.declared.position.Position.{Position}
 use Rattle.data_rows.specs.declared.position.Position.TheVariants.{Inside}
 use Rattle.check_doubts.specs.Hints.{is_placed_hint}
 use Rattle.check_doubts.specs.declared.flaw.CaveFlaw.{CaveFlaw}
-use Rattle.check_doubts.specs.declared.flaw.CaveFlaw.TheVariants as flaw
 
 -- a blank is after the number, and the text behind it begins with another one
 abbrev pub begins_blank : List ℕ → Bool
@@ -33,9 +31,9 @@ has_more after_number =
     && starts_with nat_eq (after_blanks (drop 1 after_number)) (codes ">$<")
 
 abbrev pub text_flaw : List ℕ → Option CaveFlaw
-text_flaw after_number = if begins_blank after_number then Some flaw.TextOfBlanks
-    else (if begins_tab after_number then Some flaw.TabPrinted
-    else (if has_more after_number then Some flaw.NotSilent else None))
+text_flaw after_number = if begins_blank after_number then Some CaveFlaw.TextOfBlanks
+    else (if begins_tab after_number then Some CaveFlaw.TabPrinted
+    else (if has_more after_number then Some CaveFlaw.NotSilent else None))
 
 -- the row of a text is its number, which is its first field, and the text
 abbrev pub row_flaw : List ℕ → Option CaveFlaw
@@ -50,19 +48,19 @@ module _ (cave : CaveView) where
   abbrev pub places_flaw : Option (ℕ × List ℕ) → Option CaveFlaw
   places_flaw None = None
   places_flaw (Some row) =
-      if is_rowless row.0 (length row.1) then Some (flaw.Rowless row.0) else None
+      if is_rowless row.0 (length row.1) then Some (CaveFlaw.Rowless row.0) else None
 
   abbrev pub condition_flaw : List ℕ → Option CaveFlaw
   condition_flaw line = places_flaw (result_ok (condition_row line))
 
   -- how a line of a section is written
   abbrev pub written_flaw : Section → List ℕ → Option CaveFlaw
-  written_flaw section.LongTexts line = row_flaw line
-  written_flaw section.ShortTexts line = row_flaw line
-  written_flaw section.Objects line = row_flaw line
-  written_flaw section.Messages line = row_flaw line
-  written_flaw section.Classes line = row_flaw line
-  written_flaw section.Conditions line = condition_flaw line
+  written_flaw Section.LongTexts line = row_flaw line
+  written_flaw Section.ShortTexts line = row_flaw line
+  written_flaw Section.Objects line = row_flaw line
+  written_flaw Section.Messages line = row_flaw line
+  written_flaw Section.Classes line = row_flaw line
+  written_flaw Section.Conditions line = condition_flaw line
   written_flaw _ line = None
 
   abbrev pub written_flaw_here : Position → List ℕ → Option CaveFlaw

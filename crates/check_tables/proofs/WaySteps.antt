@@ -6,9 +6,7 @@ use Rattle.std.specs.List.{list_any}
 use Rattle.std.proofs.lemmas.Bool.{cases_eq, eq-eqb, false≢true, ne_eqb}
 use Rattle.data_rows.specs.Rows.{Going}
 use Rattle.data_rows.specs.declared.targets.Condition.{Condition}
-use Rattle.data_rows.specs.declared.targets.Condition.TheVariants as condition
 use Rattle.data_rows.specs.declared.targets.Destination.{Destination}
-use Rattle.data_rows.specs.declared.targets.Destination.TheVariants as destination
 use Rattle.cave_world.specs.Motions.{any_motion}
 use Rattle.cave_world.specs.declared.state.State.{State}
 use Rattle.cave_world.specs.declared.tables.RuleRow.TheVariants.{OfPlace}
@@ -51,28 +49,28 @@ ends_by c d = is_certain c && ends_there d
 -- what is certain holds, and leads somewhere unless it puts the emerald down
 fails_by : (c : Condition) (d : Destination) (s : State)
     → cond (holds c s) (outcome_at d) None ≡ None → ends_by c d ≡ false
-fails_by (condition.Chance percent) d s fails = refl
-fails_by (condition.InHands object) d s fails = refl
-fails_by (condition.AtHand object) d s fails = refl
-fails_by (condition.OtherProp object prop) d s fails = refl
-fails_by condition.Always (destination.Place place) s fails =
+fails_by (Condition.Chance percent) d s fails = refl
+fails_by (Condition.InHands object) d s fails = refl
+fails_by (Condition.AtHand object) d s fails = refl
+fails_by (Condition.OtherProp object prop) d s fails = refl
+fails_by Condition.Always (Destination.Place place) s fails =
     absurd (false≢true (sym (ap is_some fails)))
-fails_by condition.Always (destination.Special special) s fails =
+fails_by Condition.Always (Destination.Special special) s fails =
     absurd (false≢true (sym (ap is_some fails)))
-fails_by condition.Always destination.NoWay s fails =
+fails_by Condition.Always Destination.NoWay s fails =
     absurd (false≢true (sym (ap is_some fails)))
-fails_by condition.Always (destination.Message message) s fails =
+fails_by Condition.Always (Destination.Message message) s fails =
     absurd (false≢true (sym (ap is_some fails)))
-fails_by condition.Always destination.PutsEmeraldDown s fails = refl
-fails_by condition.NotForDwarves (destination.Place place) s fails =
+fails_by Condition.Always Destination.PutsEmeraldDown s fails = refl
+fails_by Condition.NotForDwarves (Destination.Place place) s fails =
     absurd (false≢true (sym (ap is_some fails)))
-fails_by condition.NotForDwarves (destination.Special special) s fails =
+fails_by Condition.NotForDwarves (Destination.Special special) s fails =
     absurd (false≢true (sym (ap is_some fails)))
-fails_by condition.NotForDwarves destination.NoWay s fails =
+fails_by Condition.NotForDwarves Destination.NoWay s fails =
     absurd (false≢true (sym (ap is_some fails)))
-fails_by condition.NotForDwarves (destination.Message message) s fails =
+fails_by Condition.NotForDwarves (Destination.Message message) s fails =
     absurd (false≢true (sym (ap is_some fails)))
-fails_by condition.NotForDwarves destination.PutsEmeraldDown s fails = refl
+fails_by Condition.NotForDwarves Destination.PutsEmeraldDown s fails = refl
 
 pub fails : (s : State) (row : Going) → row_outcome s row ≡ None → ends_journey row ≡ false
 unfolding row_outcome
@@ -80,19 +78,19 @@ fails s row none = fails_by (row_condition row) (row_destination row) s none
 
 went : (emerald : ℕ) (d : Destination) (t : State)
     → (after_go emerald d t).trail.here ≡ t.trail.here
-went emerald destination.PutsEmeraldDown t = refl
-went emerald (destination.Place place) t = refl
-went emerald (destination.Special special) t = refl
-went emerald destination.NoWay t = refl
-went emerald (destination.Message message) t = refl
+went emerald Destination.PutsEmeraldDown t = refl
+went emerald (Destination.Place place) t = refl
+went emerald (Destination.Special special) t = refl
+went emerald Destination.NoWay t = refl
+went emerald (Destination.Message message) t = refl
 
 drew : (c : Condition) (s : State) → (after_condition c s).trail.here ≡ s.trail.here
-drew (condition.Chance percent) s = refl
-drew (condition.InHands object) s = refl
-drew (condition.AtHand object) s = refl
-drew (condition.OtherProp object prop) s = refl
-drew condition.Always s = refl
-drew condition.NotForDwarves s = refl
+drew (Condition.Chance percent) s = refl
+drew (Condition.InHands object) s = refl
+drew (Condition.AtHand object) s = refl
+drew (Condition.OtherProp object prop) s = refl
+drew Condition.Always s = refl
+drew Condition.NotForDwarves s = refl
 
 -- a try leaves the player where the player is
 pub stays : (emerald : ℕ) (s : State) (row : Going)

@@ -4,9 +4,7 @@ use Rattle.std.specs.Prelude.{Option, Some, None, if◌then◌else◌}
 use Rattle.std.specs.List.{filter, list_any}
 use Rattle.data_rows.specs.Rows.{Going}
 use Rattle.data_rows.specs.declared.targets.Condition.{Condition}
-use Rattle.data_rows.specs.declared.targets.Condition.TheVariants as condition
 use Rattle.data_rows.specs.declared.targets.Destination.{Destination}
-use Rattle.data_rows.specs.declared.targets.Destination.TheVariants as destination
 use Rattle.cave_world.specs.Travel.{lists_motion, row_condition, row_destination}
 
 -- the motions of a way that begin with it, since no way before it lists them, and the others
@@ -22,12 +20,12 @@ begins_journey before way =
     list_any (λ motion. not (list_any (lists_motion motion) before)) way.motions
 
 abbrev pub is_certain : Condition → Bool
-is_certain condition.Always = true
-is_certain condition.NotForDwarves = true
+is_certain Condition.Always = true
+is_certain Condition.NotForDwarves = true
 is_certain _ = false
 
 abbrev pub ends_there : Destination → Bool
-ends_there destination.PutsEmeraldDown = false
+ends_there Destination.PutsEmeraldDown = false
 ends_there _ = true
 
 -- a journey that reaches the way ends with it, in each state and with each draw

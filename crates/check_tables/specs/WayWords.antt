@@ -8,10 +8,8 @@ use Rattle.data_lines.specs.declared.by_line.WayLine.{WayLine}
 use Rattle.cave_data.specs.CaveView.{CaveView, first_word, ways_from}
 use Rattle.data_rows.specs.Rows.{WORDS_PER_CLASS, Going}
 use Rattle.data_rows.specs.declared.targets.Condition.{Condition}
-use Rattle.data_rows.specs.declared.targets.Condition.TheVariants as condition
 use Rattle.cave_world.specs.Motions.{any_motion}
 use Rattle.data_rows.specs.declared.targets.Destination.{Destination}
-use Rattle.data_rows.specs.declared.targets.Destination.TheVariants as destination
 use Rattle.data_rows.specs.declared.targets.Special.TheVariants as special
 use Rattle.cave_world.specs.Travel.{row_condition, row_destination}
 
@@ -55,12 +53,12 @@ other_prop_text prop = codes " isn't " ++ decimal prop
 -- what a condition asks: a chance, an object that is in the hands or is here, or a prop that the
 -- object must not have
 abbrev pub condition_text : CaveView → Condition → List ℕ
-condition_text cave condition.Always = []
-condition_text cave condition.NotForDwarves = []
-condition_text cave (condition.Chance percent) = decimal percent ++ codes " %"
-condition_text cave (condition.InHands object) = object_mark cave (codes "with") object
-condition_text cave (condition.AtHand object) = object_mark cave (codes "near") object
-condition_text cave (condition.OtherProp object prop) =
+condition_text cave Condition.Always = []
+condition_text cave Condition.NotForDwarves = []
+condition_text cave (Condition.Chance percent) = decimal percent ++ codes " %"
+condition_text cave (Condition.InHands object) = object_mark cave (codes "with") object
+condition_text cave (Condition.AtHand object) = object_mark cave (codes "near") object
+condition_text cave (Condition.OtherProp object prop) =
     object_mark cave (codes "if prop of") object ++ other_prop_text prop
 
 -- a way that always holds is marked if others have to fail, and any other has its condition
@@ -74,12 +72,12 @@ condition_mark cave later condition = mark_of_text later (condition_text cave co
 
 -- where a row leads: to a place, a message or a rule of its own
 abbrev pub end_words : Destination → List ℕ
-end_words (destination.Place place) = codes " to " ++ decimal place
-end_words (destination.Message message) = codes " to message " ++ decimal message
-end_words (destination.Special special.Squeeze) = codes " to the narrow passage"
-end_words (destination.Special special.Bridge) = codes " to the troll's bridge"
-end_words destination.PutsEmeraldDown = codes " to put EMERALD down"
-end_words destination.NoWay = codes " to no rule"
+end_words (Destination.Place place) = codes " to " ++ decimal place
+end_words (Destination.Message message) = codes " to message " ++ decimal message
+end_words (Destination.Special special.Squeeze) = codes " to the narrow passage"
+end_words (Destination.Special special.Bridge) = codes " to the troll's bridge"
+end_words Destination.PutsEmeraldDown = codes " to put EMERALD down"
+end_words Destination.NoWay = codes " to no rule"
 
 -- from where a row leads by which motions, where it leads, and on which condition
 abbrev pub row_words : CaveView → ℕ → Going → List ℕ

@@ -25,7 +25,6 @@ use Rattle.data_lines.specs.WayLines.{way_index, way_line, way_lines_at, way_lin
 use Rattle.data_lines.specs.declared.by_line.WayLine.{WayLine}
 use Rattle.data_lines.specs.declared.mark.MarkedRow.{MarkedRow}
 use Rattle.data_lines.specs.declared.mark.RowMark.{RowMark}
-use Rattle.data_lines.specs.declared.mark.RowMark.TheVariants as mark
 use Rattle.data_lines.proofs.MarksOfLines.{marks_then, none_after_end, row_leads, row_marked}
 use Rattle.data_lines.proofs.WaysOfRows.{goings_of, more_ways}
 
@@ -34,7 +33,7 @@ use Rattle.data_lines.proofs.WaysOfRows.{goings_of, more_ways}
 at_way : (before : List MarkedRow) (line place : ℕ) (m : RowMark) → leads_from place m ≡ true
     → way_line before line m
     ≡ record { line = line; place = place; index = way_index place before } ∷ []
-at_way before line place (mark.Way other) leads =
+at_way before line place (RowMark.Way other) leads =
     ap (λ p. record { line = line; place = p; index = way_index p before } ∷ [])
     (eqb-true other place leads)
 at_way before line place other leads = absurd (false≢true leads)

@@ -13,7 +13,6 @@ use Rattle.data_lines.specs.Marks.{is_way_from, leads_from, mark_of}
 use Rattle.data_lines.specs.WayLines.{way_index, way_line}
 use Rattle.data_lines.specs.declared.mark.MarkedRow.{MarkedRow}
 use Rattle.data_lines.specs.declared.mark.RowMark.{RowMark}
-use Rattle.data_lines.specs.declared.mark.RowMark.TheVariants as mark
 
 -- ---- the ways of rows
 
@@ -66,12 +65,12 @@ more_goings place rows row n is =
 -- a way is counted for its own place, and for no other
 pub way_alike : (before : List MarkedRow) (rows : List Entry) (line place : ℕ) (going : Going)
     → Alike before rows
-    → Alike (before ++ record { line = line; mark = mark.Way place } ∷ [])
+    → Alike (before ++ record { line = line; mark = RowMark.Way place } ∷ [])
     (rows ++ Way place going ∷ [])
 way_alike before rows line place going alike other = by_test (place == other) refl
   where
     row : MarkedRow
-    row = record { line = line; mark = mark.Way place }
+    row = record { line = line; mark = RowMark.Way place }
 
     by_test : (b : Bool) → (place == other) ≡ b
         → way_index other (before ++ row ∷ [])
@@ -87,11 +86,11 @@ way_alike before rows line place going alike other = by_test (place == other) re
 
 abbrev pub IsNoWay : Option RowMark → Type 0
 IsNoWay None = Unit {0}
-IsNoWay (Some (mark.Way place)) = ⊥
+IsNoWay (Some (RowMark.Way place)) = ⊥
 IsNoWay (Some other) = Unit {0}
 
 abbrev NamesNoWay : Bool → TextLine → Type 0
-NamesNoWay names line = IsNoWay (if names then Some (mark.Name line.number) else None)
+NamesNoWay names line = IsNoWay (if names then Some (RowMark.Name line.number) else None)
 
 pub object_is_no_way : (line : TextLine) (names : Bool) → NamesNoWay names line
 object_is_no_way line true = tt
@@ -104,11 +103,11 @@ marked_as_no_way other none = tt
 
 pub no_line : (m : RowMark) (before : List MarkedRow) (number : ℕ) → IsNoWay (Some m)
     → way_line before number m ≡ []
-no_line (mark.Way place) before number plain = absurd plain
+no_line (RowMark.Way place) before number plain = absurd plain
 no_line other before number plain = refl
 
 pub leads_nowhere : (m : RowMark) (place : ℕ) → IsNoWay (Some m) → leads_from place m ≡ false
-leads_nowhere (mark.Way other) place plain = absurd plain
+leads_nowhere (RowMark.Way other) place plain = absurd plain
 leads_nowhere other place plain = refl
 
 pub no_goings : (row : Entry) (place : ℕ) → is_some (way_of row) ≡ false

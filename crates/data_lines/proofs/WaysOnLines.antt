@@ -14,7 +14,6 @@ use Rattle.data_rows.specs.RowGrammar.{IsRow, in_3}
 use Rattle.data_rows.specs.Rows.{Entry, Going, Way}
 use Rattle.data_rows.specs.SectionRows.{way_of}
 use Rattle.data_rows.specs.declared.error.Section.{Section}
-use Rattle.data_rows.specs.declared.error.Section.TheVariants as section
 use Rattle.data_rows.specs.declared.number.Number.TheVariants.{Natural, Negative}
 use Rattle.data_rows.specs.declared.position.Position.{Position}
 use Rattle.data_rows.specs.declared.position.Position.TheVariants.{Outside, Inside, After}
@@ -26,7 +25,6 @@ use Rattle.data_lines.specs.WayLines.{way_index, way_lines, way_lines_from}
 use Rattle.data_lines.specs.declared.by_line.WayLine.{WayLine}
 use Rattle.data_lines.specs.declared.mark.MarkedRow.{MarkedRow}
 use Rattle.data_lines.specs.declared.mark.RowMark.{RowMark}
-use Rattle.data_lines.specs.declared.mark.RowMark.TheVariants as mark
 use Rattle.data_lines.proofs.ListedWays.{listed_from, rows_counted}
 use Rattle.data_lines.proofs.MarksOfLines.{marks_then, none_after_end, row_leads, row_marked}
 use Rattle.data_lines.proofs.WaysOfRows.{Alike, IsNoWay, at_end, goings_append, goings_of, leads_nowhere, marked_as_no_way}
@@ -125,24 +123,24 @@ other_row passed earlier s line row later rest is none stand before alike =
 -- a way
 way_row_stands : (passed : List (List ℕ)) (earlier : List Entry) (line : List ℕ) (place : ℕ)
     (going : Going) (later : List (List ℕ)) (rest : List Entry)
-    → IsRow section.Travel line (Way place going)
-    → Stand (passed ++ line ∷ []) (earlier ++ Way place going ∷ []) (Inside section.Travel) later
+    → IsRow Section.Travel line (Way place going)
+    → Stand (passed ++ line ∷ []) (earlier ++ Way place going ∷ []) (Inside Section.Travel) later
     rest
-    → Stand passed earlier (Inside section.Travel) (line ∷ later) (Way place going ∷ rest)
+    → Stand passed earlier (Inside Section.Travel) (line ∷ later) (Way place going ∷ rest)
 way_row_stands passed earlier line place going later rest is stand before alike =
     subst (λ marks. All (StandsAmong (passed ++ line ∷ later) (earlier ++ row ∷ rest))
     (way_lines_from before marks))
-    (marks_then (Inside section.Travel) (Inside section.Travel) line later (suc (length passed))
-    (Some (mark.Way place)) (row_marked section.Travel line row is)
-    (row_leads section.Travel line row is))
+    (marks_then (Inside Section.Travel) (Inside Section.Travel) line later (suc (length passed))
+    (Some (RowMark.Way place)) (row_marked Section.Travel line row is)
+    (row_leads Section.Travel line row is))
     (All-cons (StandsAmong (passed ++ line ∷ later) (earlier ++ row ∷ rest)) way
     (way_lines_from (before ++ marked ∷ [])
-    (marked_rows (suc (suc (length passed))) (Inside section.Travel) later)) stands
-    (one_passed passed line later (earlier ++ row ∷ rest) (Inside section.Travel)
+    (marked_rows (suc (suc (length passed))) (Inside Section.Travel) later)) stands
+    (one_passed passed line later (earlier ++ row ∷ rest) (Inside Section.Travel)
     (before ++ marked ∷ [])
     (subst (λ rows. All (StandsAmong ((passed ++ line ∷ []) ++ later) rows)
     (way_lines_from (before ++ marked ∷ [])
-    (marked_rows (suc (length (passed ++ line ∷ []))) (Inside section.Travel) later)))
+    (marked_rows (suc (length (passed ++ line ∷ []))) (Inside Section.Travel) later)))
     (append_assoc earlier (row ∷ []) rest)
     (stand (before ++ marked ∷ [])
     (way_alike before earlier (suc (length passed)) place going alike)))))
@@ -151,7 +149,7 @@ way_row_stands passed earlier line place going later rest is stand before alike 
     row = Way place going
 
     marked : MarkedRow
-    marked = record { line = suc (length passed); mark = mark.Way place }
+    marked = record { line = suc (length passed); mark = RowMark.Way place }
 
     way : WayLine
     way = record {

@@ -13,26 +13,25 @@ use Rattle.data_rows.specs.declared.error.Section.{Section}
 use Rattle.data_rows.specs.declared.position.Position.TheVariants.{Inside}
 use Rattle.data_rows.specs.declared.position.Position.{Position}
 use Rattle.data_lines.specs.declared.mark.RowMark.{RowMark}
-use Rattle.data_lines.specs.declared.mark.RowMark.TheVariants as mark
 use Rattle.data_lines.specs.declared.mark.MarkedRow.{MarkedRow}
 
 -- a line of section 5 belongs to an inventory text, or to what is seen of the object before
 abbrev pub mark_of_object_line : TextLine → Option RowMark
-mark_of_object_line line = if names_object line then Some (mark.Name line.number) else None
+mark_of_object_line line = if names_object line then Some (RowMark.Name line.number) else None
 
 -- what a row is about, unless its kind has no mark
 abbrev pub mark_of : Entry → Option RowMark
-mark_of (LongLine line) = Some (mark.Long line.number)
-mark_of (ShortLine line) = Some (mark.Short line.number)
-mark_of (Way place going) = Some (mark.Way place)
-mark_of (Word word) = Some mark.Word
+mark_of (LongLine line) = Some (RowMark.Long line.number)
+mark_of (ShortLine line) = Some (RowMark.Short line.number)
+mark_of (Way place going) = Some (RowMark.Way place)
+mark_of (Word word) = Some RowMark.Word
 mark_of (ObjectLine line) = mark_of_object_line line
 mark_of (MessageLine line) = None
-mark_of (PlacementRow object placement) = Some (mark.Placement object)
-mark_of (DefaultRow action message) = Some (mark.Default action message)
+mark_of (PlacementRow object placement) = Some (RowMark.Placement object)
+mark_of (DefaultRow action message) = Some (RowMark.Default action message)
 mark_of (ConditionRow bit places) = None
-mark_of (ClassLine line) = Some (mark.Class line.number)
-mark_of (HintRow number hint) = Some (mark.Hint number hint.question hint.text)
+mark_of (ClassLine line) = Some (RowMark.Class line.number)
+mark_of (HintRow number hint) = Some (RowMark.Hint number hint.question hint.text)
 mark_of (MagicLine line) = None
 
 -- what a line of a section is about, if it is such a row
@@ -61,27 +60,27 @@ marked_rows number position (line ∷ lines) =
 -- ---- which rows are of a kind
 
 abbrev pub is_long : ℕ → RowMark → Bool
-is_long place (mark.Long other) = other == place
+is_long place (RowMark.Long other) = other == place
 is_long place _ = false
 
 abbrev pub is_short : ℕ → RowMark → Bool
-is_short place (mark.Short other) = other == place
+is_short place (RowMark.Short other) = other == place
 is_short place _ = false
 
 abbrev pub marks_name : ℕ → RowMark → Bool
-marks_name object (mark.Name other) = other == object
+marks_name object (RowMark.Name other) = other == object
 marks_name object _ = false
 
 abbrev pub leads_from : ℕ → RowMark → Bool
-leads_from place (mark.Way other) = other == place
+leads_from place (RowMark.Way other) = other == place
 leads_from place _ = false
 
 abbrev pub is_of_word : RowMark → Bool
-is_of_word mark.Word = true
+is_of_word RowMark.Word = true
 is_of_word _ = false
 
 abbrev pub has_bound_from : ℕ → RowMark → Bool
-has_bound_from score (mark.Class bound) = nat_le score bound
+has_bound_from score (RowMark.Class bound) = nat_le score bound
 has_bound_from score _ = false
 
 abbrev pub is_long_text : ℕ → MarkedRow → Bool

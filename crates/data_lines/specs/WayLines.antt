@@ -5,7 +5,6 @@ use Rattle.std.specs.Str.Lines.{lines}
 use Rattle.data_rows.specs.declared.position.Position.TheVariants.{Outside}
 use Rattle.data_lines.specs.Marks.{is_way_from, marked_rows}
 use Rattle.data_lines.specs.declared.mark.RowMark.{RowMark}
-use Rattle.data_lines.specs.declared.mark.RowMark.TheVariants as mark
 use Rattle.data_lines.specs.declared.mark.MarkedRow.{MarkedRow}
 use Rattle.data_lines.specs.declared.by_line.WayLine.{WayLine}
 
@@ -31,7 +30,7 @@ AreCounts before counts = (place : ℕ) → count_of counts place ≡ way_index 
 -- ---- the lines
 
 abbrev pub way_line : List MarkedRow → ℕ → RowMark → List WayLine
-way_line before line (mark.Way place) =
+way_line before line (RowMark.Way place) =
     record { line = line; place = place; index = way_index place before } ∷ []
 way_line before line _ = []
 

@@ -4,7 +4,6 @@ use Rattle.std.proofs.Common.{Some, None, option_map, refl, ap, subst, ◌∙◌
 use Rattle.std.proofs.lemmas.Bool.{eqb-true}
 use Rattle.base_lines.specs.Bytes.{is_all_blank}
 use Rattle.data_rows.specs.declared.error.Section.{Section}
-use Rattle.data_rows.specs.declared.error.Section.TheVariants as section
 use Rattle.data_rows.specs.declared.number.Number.{Number}
 use Rattle.data_rows.specs.declared.number.Number.TheVariants.{Natural, Negative}
 use Rattle.data_rows.specs.declared.position.Position.{Position}
@@ -57,18 +56,18 @@ minus_one-closes line is = at (number_at line) refl is where
 -- ---- the heading of a section, and the end
 
 section_of-number : (s : Section) → position_after_number (section_number s) ≡ Some (Inside s)
-section_of-number section.LongTexts = refl
-section_of-number section.ShortTexts = refl
-section_of-number section.Travel = refl
-section_of-number section.Words = refl
-section_of-number section.Objects = refl
-section_of-number section.Messages = refl
-section_of-number section.Placements = refl
-section_of-number section.Defaults = refl
-section_of-number section.Conditions = refl
-section_of-number section.Classes = refl
-section_of-number section.Hints = refl
-section_of-number section.Magic = refl
+section_of-number Section.LongTexts = refl
+section_of-number Section.ShortTexts = refl
+section_of-number Section.Travel = refl
+section_of-number Section.Words = refl
+section_of-number Section.Objects = refl
+section_of-number Section.Messages = refl
+section_of-number Section.Placements = refl
+section_of-number Section.Defaults = refl
+section_of-number Section.Conditions = refl
+section_of-number Section.Classes = refl
+section_of-number Section.Hints = refl
+section_of-number Section.Magic = refl
 
 pub heading-section : (s : Section) (line : List ℕ)
     → IsLineOfNumber (Natural (section_number s)) line
@@ -95,12 +94,12 @@ by_number n k s t later is others found = at (n == k) refl found where
 
 number-section : (n : ℕ) (t : Section) → section_of n ≡ Some t → n ≡ section_number t
 number-section n t =
-    by_number n 1 section.LongTexts t _ refl (by_number n 2 section.ShortTexts t _ refl
-    (by_number n 3 section.Travel t _ refl (by_number n 4 section.Words t _ refl
-    (by_number n 5 section.Objects t _ refl (by_number n 6 section.Messages t _ refl
-    (by_number n 7 section.Placements t _ refl (by_number n 8 section.Defaults t _ refl
-    (by_number n 9 section.Conditions t _ refl (by_number n 10 section.Classes t _ refl
-    (by_number n 11 section.Hints t _ refl (by_number n 12 section.Magic t None refl
+    by_number n 1 Section.LongTexts t _ refl (by_number n 2 Section.ShortTexts t _ refl
+    (by_number n 3 Section.Travel t _ refl (by_number n 4 Section.Words t _ refl
+    (by_number n 5 Section.Objects t _ refl (by_number n 6 Section.Messages t _ refl
+    (by_number n 7 Section.Placements t _ refl (by_number n 8 Section.Defaults t _ refl
+    (by_number n 9 Section.Conditions t _ refl (by_number n 10 Section.Classes t _ refl
+    (by_number n 11 Section.Hints t _ refl (by_number n 12 Section.Magic t None refl
     (λ none. cc))))))))))))
 
 -- what a line outside every section opens

@@ -1,7 +1,6 @@
 -- A line is a row of a section exactly if it is read as one.
 use Rattle.std.proofs.Common.{◌≡◌, ℕ, List, Ok, refl, subst}
 use Rattle.data_rows.specs.declared.error.Section.{Section}
-use Rattle.data_rows.specs.declared.error.Section.TheVariants as section
 use Rattle.data_rows.specs.Rows.{Entry, LongLine, ShortLine, Way, Word, ObjectLine, MessageLine}
 use Rattle.data_rows.specs.Rows.{PlacementRow, DefaultRow, ConditionRow, ClassLine, HintRow}
 use Rattle.data_rows.specs.Rows.{MagicLine, text_line, object_line, way_row, word_row}
@@ -37,53 +36,53 @@ entry-read s line entry (in_12 {row = row} is) = rw (text_row-read 1 499 line ro
 
 pub read-entry : (s : Section) (line : List ℕ) (entry : Entry) → entry_in s line ≡ Ok entry
     → IsRow s line entry
-read-entry section.LongTexts line entry is =
+read-entry Section.LongTexts line entry is =
     let row = in_steps (text_line 1 300 line) _ entry is in
     let same = same_ok (LongLine row.0) entry row.2 in
-    subst (IsRow section.LongTexts line) same (in_1 (read-text_row 1 300 line row.0 row.1))
-read-entry section.ShortTexts line entry is =
+    subst (IsRow Section.LongTexts line) same (in_1 (read-text_row 1 300 line row.0 row.1))
+read-entry Section.ShortTexts line entry is =
     let row = in_steps (text_line 1 300 line) _ entry is in
     let same = same_ok (ShortLine row.0) entry row.2 in
-    subst (IsRow section.ShortTexts line) same (in_2 (read-text_row 1 300 line row.0 row.1))
-read-entry section.Travel line entry is =
+    subst (IsRow Section.ShortTexts line) same (in_2 (read-text_row 1 300 line row.0 row.1))
+read-entry Section.Travel line entry is =
     let row = in_steps (way_row line) _ entry is in
     let found = read-way line row.0 row.1 in
     let same = same_ok (Way row.0.0 row.0.1) entry row.2 in
-    subst (IsRow section.Travel line) same (in_3 found.0 found.1)
-read-entry section.Words line entry is =
+    subst (IsRow Section.Travel line) same (in_3 found.0 found.1)
+read-entry Section.Words line entry is =
     let row = in_steps (word_row line) _ entry is in
     let same = same_ok (Word row.0) entry row.2 in
-    subst (IsRow section.Words line) same (in_4 (read-word-row line row.0 row.1))
-read-entry section.Objects line entry is =
+    subst (IsRow Section.Words line) same (in_4 (read-word-row line row.0 row.1))
+read-entry Section.Objects line entry is =
     let row = in_steps (object_line line) _ entry is in
     let same = same_ok (ObjectLine row.0) entry row.2 in
-    subst (IsRow section.Objects line) same (in_5 (read-object_line line row.0 row.1))
-read-entry section.Messages line entry is =
+    subst (IsRow Section.Objects line) same (in_5 (read-object_line line row.0 row.1))
+read-entry Section.Messages line entry is =
     let row = in_steps (text_line 1 499 line) _ entry is in
     let same = same_ok (MessageLine row.0) entry row.2 in
-    subst (IsRow section.Messages line) same (in_6 (read-text_row 1 499 line row.0 row.1))
-read-entry section.Placements line entry is =
+    subst (IsRow Section.Messages line) same (in_6 (read-text_row 1 499 line row.0 row.1))
+read-entry Section.Placements line entry is =
     let row = in_steps (placement_row line) _ entry is in
     let same = same_ok (PlacementRow row.0.0 row.0.1) entry row.2 in
-    subst (IsRow section.Placements line) same (in_7 (read-placement line row.0 row.1))
-read-entry section.Defaults line entry is =
+    subst (IsRow Section.Placements line) same (in_7 (read-placement line row.0 row.1))
+read-entry Section.Defaults line entry is =
     let row = in_steps (default_row line) _ entry is in
     let same = same_ok (DefaultRow row.0.0 row.0.1) entry row.2 in
-    subst (IsRow section.Defaults line) same (in_8 (read-default line row.0 row.1))
-read-entry section.Conditions line entry is =
+    subst (IsRow Section.Defaults line) same (in_8 (read-default line row.0 row.1))
+read-entry Section.Conditions line entry is =
     let row = in_steps (condition_row line) _ entry is in
     let found = read-condition line row.0 row.1 in
     let same = same_ok (ConditionRow row.0.0 row.0.1) entry row.2 in
-    subst (IsRow section.Conditions line) same (in_9 found.0 found.1)
-read-entry section.Classes line entry is =
+    subst (IsRow Section.Conditions line) same (in_9 found.0 found.1)
+read-entry Section.Classes line entry is =
     let row = in_steps (text_line 0 9999 line) _ entry is in
     let same = same_ok (ClassLine row.0) entry row.2 in
-    subst (IsRow section.Classes line) same (in_10 (read-text_row 0 9999 line row.0 row.1))
-read-entry section.Hints line entry is =
+    subst (IsRow Section.Classes line) same (in_10 (read-text_row 0 9999 line row.0 row.1))
+read-entry Section.Hints line entry is =
     let row = in_steps (hint_row line) _ entry is in
     let same = same_ok (HintRow row.0.0 row.0.1) entry row.2 in
-    subst (IsRow section.Hints line) same (in_11 (read-hint line row.0 row.1))
-read-entry section.Magic line entry is =
+    subst (IsRow Section.Hints line) same (in_11 (read-hint line row.0 row.1))
+read-entry Section.Magic line entry is =
     let row = in_steps (text_line 1 499 line) _ entry is in
     let same = same_ok (MagicLine row.0) entry row.2 in
-    subst (IsRow section.Magic line) same (in_12 (read-text_row 1 499 line row.0 row.1))
+    subst (IsRow Section.Magic line) same (in_12 (read-text_row 1 499 line row.0 row.1))

@@ -2,7 +2,6 @@
 use Rattle.std.specs.Prelude.{ℕ, List, [], ◌∷◌, IsTrue}
 use Rattle.base_lines.specs.Bytes.{is_all_blank}
 use Rattle.data_rows.specs.declared.error.Section.{Section}
-use Rattle.data_rows.specs.declared.error.Section.TheVariants as section
 use Rattle.data_rows.specs.declared.number.Number.{Number}
 use Rattle.data_rows.specs.declared.number.Number.TheVariants.{Natural, Negative}
 use Rattle.data_rows.specs.declared.position.Position.{Position}
@@ -12,18 +11,18 @@ use Rattle.data_rows.specs.RowParts.{BeginsWithNumber}
 use Rattle.data_rows.specs.RowGrammar.{IsRow}
 
 abbrev pub section_number : Section → ℕ
-section_number section.LongTexts = 1
-section_number section.ShortTexts = 2
-section_number section.Travel = 3
-section_number section.Words = 4
-section_number section.Objects = 5
-section_number section.Messages = 6
-section_number section.Placements = 7
-section_number section.Defaults = 8
-section_number section.Conditions = 9
-section_number section.Classes = 10
-section_number section.Hints = 11
-section_number section.Magic = 12
+section_number Section.LongTexts = 1
+section_number Section.ShortTexts = 2
+section_number Section.Travel = 3
+section_number Section.Words = 4
+section_number Section.Objects = 5
+section_number Section.Messages = 6
+section_number Section.Placements = 7
+section_number Section.Defaults = 8
+section_number Section.Conditions = 9
+section_number Section.Classes = 10
+section_number Section.Hints = 11
+section_number Section.Magic = 12
 
 -- the line begins with the number; what follows it is ignored
 abbrev pub IsLineOfNumber : Number → List ℕ → Type 0

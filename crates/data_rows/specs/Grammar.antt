@@ -4,7 +4,6 @@ use Rattle.std.specs.Prelude.{◌++◌, fold, Option, Some, None, option_map, op
 use Rattle.std.specs.Result.{result_ok}
 use Rattle.base_lines.specs.Bytes.{is_all_blank}
 use Rattle.data_rows.specs.declared.error.Section.{Section}
-use Rattle.data_rows.specs.declared.error.Section.TheVariants as section
 use Rattle.data_rows.specs.declared.number.Number.{Number}
 use Rattle.data_rows.specs.declared.number.Number.TheVariants.{Natural, Negative}
 use Rattle.data_rows.specs.declared.position.Position.{Position}
@@ -15,18 +14,18 @@ use Rattle.data_rows.specs.Rows.{Entry, entry_in}
 -- the section of a number from 1 to 12
 abbrev pub section_of : ℕ → Option Section
 section_of n =
-    if n == 1 then Some section.LongTexts
-    else (if n == 2 then Some section.ShortTexts
-    else (if n == 3 then Some section.Travel
-    else (if n == 4 then Some section.Words
-    else (if n == 5 then Some section.Objects
-    else (if n == 6 then Some section.Messages
-    else (if n == 7 then Some section.Placements
-    else (if n == 8 then Some section.Defaults
-    else (if n == 9 then Some section.Conditions
-    else (if n == 10 then Some section.Classes
-    else (if n == 11 then Some section.Hints
-    else (if n == 12 then Some section.Magic else None)))))))))))
+    if n == 1 then Some Section.LongTexts
+    else (if n == 2 then Some Section.ShortTexts
+    else (if n == 3 then Some Section.Travel
+    else (if n == 4 then Some Section.Words
+    else (if n == 5 then Some Section.Objects
+    else (if n == 6 then Some Section.Messages
+    else (if n == 7 then Some Section.Placements
+    else (if n == 8 then Some Section.Defaults
+    else (if n == 9 then Some Section.Conditions
+    else (if n == 10 then Some Section.Classes
+    else (if n == 11 then Some Section.Hints
+    else (if n == 12 then Some Section.Magic else None)))))))))))
 
 -- where the next line is, after a line outside every section: 0 is the end, a number from 1 to 12
 -- opens a section

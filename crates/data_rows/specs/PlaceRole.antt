@@ -3,20 +3,19 @@ use Rattle.std.specs.Prelude.{ℕ, List, [], ◌∷◌, codes, map, slice_index_
 use denote.Enum.Declared.{tag_of}
 use Rattle.data_rows.specs.contracts.place_role.PlaceRole.{the_type}
 use Rattle.data_rows.specs.declared.place_role.PlaceRole.{PlaceRole}
-use Rattle.data_rows.specs.declared.place_role.PlaceRole.TheVariants as place
 
 -- each with the name that bindings use, in the order of their numbers
 abbrev pub PLACE_ROWS : List (PlaceRole × List ℕ)
 PLACE_ROWS =
-    (place.Start, codes "start") ∷ (place.Building, codes "building")
-    ∷ (place.Outside, codes "outside") ∷ (place.Deep, codes "deep")
-    ∷ (place.Alcove, codes "alcove") ∷ (place.Plover, codes "plover") ∷ (place.Y2, codes "y2")
-    ∷ (place.Chest, codes "chest") ∷ (place.Message, codes "message")
-    ∷ (place.Dwarfalt, codes "dwarfalt") ∷ (place.Dwarf1, codes "dwarf1")
-    ∷ (place.Dwarf2, codes "dwarf2") ∷ (place.Dwarf3, codes "dwarf3")
-    ∷ (place.Dwarf4, codes "dwarf4") ∷ (place.Dwarf5, codes "dwarf5")
-    ∷ (place.Culdesac, codes "culdesac") ∷ (place.Witt, codes "witt") ∷ (place.Ne, codes "ne")
-    ∷ (place.Sw, codes "sw") ∷ []
+    (PlaceRole.Start, codes "start") ∷ (PlaceRole.Building, codes "building")
+    ∷ (PlaceRole.Outside, codes "outside") ∷ (PlaceRole.Deep, codes "deep")
+    ∷ (PlaceRole.Alcove, codes "alcove") ∷ (PlaceRole.Plover, codes "plover") ∷ (PlaceRole.Y2, codes "y2")
+    ∷ (PlaceRole.Chest, codes "chest") ∷ (PlaceRole.Message, codes "message")
+    ∷ (PlaceRole.Dwarfalt, codes "dwarfalt") ∷ (PlaceRole.Dwarf1, codes "dwarf1")
+    ∷ (PlaceRole.Dwarf2, codes "dwarf2") ∷ (PlaceRole.Dwarf3, codes "dwarf3")
+    ∷ (PlaceRole.Dwarf4, codes "dwarf4") ∷ (PlaceRole.Dwarf5, codes "dwarf5")
+    ∷ (PlaceRole.Culdesac, codes "culdesac") ∷ (PlaceRole.Witt, codes "witt") ∷ (PlaceRole.Ne, codes "ne")
+    ∷ (PlaceRole.Sw, codes "sw") ∷ []
 
 abbrev pub each_place_role : List PlaceRole
 each_place_role = map (λ row. row.0) PLACE_ROWS

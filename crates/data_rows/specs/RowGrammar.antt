@@ -3,7 +3,6 @@ use Rattle.std.specs.Prelude.{◌≡◌, ◌⊎◌, ℕ, ℤ, pos, negsuc, ◌+�
 use Rattle.std.specs.Prelude.{map}
 use Rattle.std.specs.List.{All}
 use Rattle.data_rows.specs.declared.error.Section.{Section}
-use Rattle.data_rows.specs.declared.error.Section.TheVariants as section
 use Rattle.data_rows.specs.declared.number.Number.{Number}
 use Rattle.data_rows.specs.declared.number.Number.TheVariants.{Natural, Negative}
 use Rattle.data_rows.specs.declared.rows.Placement.{Placement}
@@ -111,27 +110,27 @@ pub record IsHintRow (line : List ℕ) (number : ℕ) (hint : Hint) : Type 0 whe
 -- The line is a row of the section, and says this.
 pub data IsRow : Section → List ℕ → Entry → Type 0 where
   in_1 : {line : List ℕ} {row : TextLine} → IsTextRow (IsBetween 1 LAST_PLACE) line row
-      → IsRow section.LongTexts line (LongLine row)
+      → IsRow Section.LongTexts line (LongLine row)
   in_2 : {line : List ℕ} {row : TextLine} → IsTextRow (IsBetween 1 LAST_PLACE) line row
-      → IsRow section.ShortTexts line (ShortLine row)
+      → IsRow Section.ShortTexts line (ShortLine row)
   in_3 : {line : List ℕ} {place : ℕ} {going : Going} → IsWayRow line place going
-      → length going.motions ≤ 40 → IsRow section.Travel line (Way place going)
+      → length going.motions ≤ 40 → IsRow Section.Travel line (Way place going)
   in_4 : {line : List ℕ} {entry : WordEntry} → IsWordRow line entry
-      → IsRow section.Words line (Word entry)
+      → IsRow Section.Words line (Word entry)
   in_5 : {line : List ℕ} {row : TextLine} → IsTextRow IsObjectOrProp line row
-      → IsRow section.Objects line (ObjectLine row)
+      → IsRow Section.Objects line (ObjectLine row)
   in_6 : {line : List ℕ} {row : TextLine} → IsTextRow (IsBetween 1 LAST_MESSAGE) line row
-      → IsRow section.Messages line (MessageLine row)
+      → IsRow Section.Messages line (MessageLine row)
   in_7 : {line : List ℕ} {object : ℕ} {placement : Placement}
       → IsPlacementRow line object placement
-      → IsRow section.Placements line (PlacementRow object placement)
+      → IsRow Section.Placements line (PlacementRow object placement)
   in_8 : {line : List ℕ} {action message : ℕ} → IsDefaultRow line action message
-      → IsRow section.Defaults line (DefaultRow action message)
+      → IsRow Section.Defaults line (DefaultRow action message)
   in_9 : {line : List ℕ} {bit : ℕ} {places : List ℕ} → IsConditionRow line bit places
-      → length places ≤ 40 → IsRow section.Conditions line (ConditionRow bit places)
+      → length places ≤ 40 → IsRow Section.Conditions line (ConditionRow bit places)
   in_10 : {line : List ℕ} {row : TextLine} → IsTextRow (IsBetween 0 9999) line row
-      → IsRow section.Classes line (ClassLine row)
+      → IsRow Section.Classes line (ClassLine row)
   in_11 : {line : List ℕ} {number : ℕ} {hint : Hint} → IsHintRow line number hint
-      → IsRow section.Hints line (HintRow number hint)
+      → IsRow Section.Hints line (HintRow number hint)
   in_12 : {line : List ℕ} {row : TextLine} → IsTextRow (IsBetween 1 LAST_MESSAGE) line row
-      → IsRow section.Magic line (MagicLine row)
+      → IsRow Section.Magic line (MagicLine row)

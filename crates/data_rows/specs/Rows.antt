@@ -6,7 +6,6 @@ use Rattle.std.specs.Option.{ok_or}
 use Rattle.data_rows.specs.declared.error.Cause.{Cause}
 use Rattle.data_rows.specs.declared.error.Cause.TheVariants.{BadNumber, OutOfRange, TooManyRows}
 use Rattle.data_rows.specs.declared.error.Section.{Section}
-use Rattle.data_rows.specs.declared.error.Section.TheVariants as section
 use Rattle.data_rows.specs.declared.number.Number.{Number}
 use Rattle.data_rows.specs.declared.number.Number.TheVariants.{Natural, Negative}
 use Rattle.data_rows.specs.declared.rows.Placement.{Placement}
@@ -248,15 +247,15 @@ hint_row line = do
 
 -- the line, read as a row of a section
 abbrev pub entry_in : Section → List ℕ → Result Entry Cause
-entry_in section.LongTexts line = text_line 1 LAST_PLACE line >>= λ row. Ok (LongLine row)
-entry_in section.ShortTexts line = text_line 1 LAST_PLACE line >>= λ row. Ok (ShortLine row)
-entry_in section.Travel line = way_row line >>= λ row. Ok (Way row.0 row.1)
-entry_in section.Words line = word_row line >>= λ row. Ok (Word row)
-entry_in section.Objects line = object_line line >>= λ row. Ok (ObjectLine row)
-entry_in section.Messages line = text_line 1 LAST_MESSAGE line >>= λ row. Ok (MessageLine row)
-entry_in section.Placements line = placement_row line >>= λ row. Ok (PlacementRow row.0 row.1)
-entry_in section.Defaults line = default_row line >>= λ row. Ok (DefaultRow row.0 row.1)
-entry_in section.Conditions line = condition_row line >>= λ row. Ok (ConditionRow row.0 row.1)
-entry_in section.Classes line = text_line 0 9999 line >>= λ row. Ok (ClassLine row)
-entry_in section.Hints line = hint_row line >>= λ row. Ok (HintRow row.0 row.1)
-entry_in section.Magic line = text_line 1 LAST_MESSAGE line >>= λ row. Ok (MagicLine row)
+entry_in Section.LongTexts line = text_line 1 LAST_PLACE line >>= λ row. Ok (LongLine row)
+entry_in Section.ShortTexts line = text_line 1 LAST_PLACE line >>= λ row. Ok (ShortLine row)
+entry_in Section.Travel line = way_row line >>= λ row. Ok (Way row.0 row.1)
+entry_in Section.Words line = word_row line >>= λ row. Ok (Word row)
+entry_in Section.Objects line = object_line line >>= λ row. Ok (ObjectLine row)
+entry_in Section.Messages line = text_line 1 LAST_MESSAGE line >>= λ row. Ok (MessageLine row)
+entry_in Section.Placements line = placement_row line >>= λ row. Ok (PlacementRow row.0 row.1)
+entry_in Section.Defaults line = default_row line >>= λ row. Ok (DefaultRow row.0 row.1)
+entry_in Section.Conditions line = condition_row line >>= λ row. Ok (ConditionRow row.0 row.1)
+entry_in Section.Classes line = text_line 0 9999 line >>= λ row. Ok (ClassLine row)
+entry_in Section.Hints line = hint_row line >>= λ row. Ok (HintRow row.0 row.1)
+entry_in Section.Magic line = text_line 1 LAST_MESSAGE line >>= λ row. Ok (MagicLine row)

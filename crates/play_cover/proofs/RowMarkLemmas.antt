@@ -9,7 +9,6 @@ use Rattle.check_tables.specs.Marks.{Notes}
 use Rattle.check_tables.specs.declared.marks.Mark.{Mark}
 use Rattle.check_tables.specs.TextKinds.{kind_number}
 use Rattle.check_tables.specs.declared.text_kinds.TextKind.{TextKind}
-use Rattle.check_tables.specs.declared.text_kinds.TextKind.TheVariants as kind
 
 group : {one other : Mark} → one ≡ other → one.group ≡ other.group
 group same = ap (λ (mark : Mark). mark.group) same
@@ -39,13 +38,13 @@ each_row_has_its_mark (OfPlace p n true) (OfPlace q m true) same =
     let is : 7 + (3 * p + 2) ≡ 7 + (3 * q + 2) = group same in (omega (arith, is), number same, refl)
 
 below : (of : TextKind) → kind_number of < 7
-below kind.Long = omega (arith)
-below kind.Short = omega (arith)
-below kind.Look = omega (arith)
-below kind.Name = omega (arith)
-below kind.Message = omega (arith)
-below kind.Role = omega (arith)
-below kind.Class = omega (arith)
+below TextKind.Long = omega (arith)
+below TextKind.Short = omega (arith)
+below TextKind.Look = omega (arith)
+below TextKind.Name = omega (arith)
+below TextKind.Message = omega (arith)
+below TextKind.Role = omega (arith)
+below TextKind.Class = omega (arith)
 
 pub no_row_is_text : NoRowIsText
 no_row_is_text of n (OfTable t m) same =

@@ -14,9 +14,7 @@ use Rattle.check_tables.specs.declared.marks.Mark.{Mark}
 use Rattle.std.specs.Fmt.{decimal}
 use Rattle.play_cover.specs.declared.coverage.Detail.TheVariants.{Both}
 use Rattle.play_command.specs.declared.views.TextView.{TextView}
-use Rattle.play_command.specs.declared.views.TextView.TheVariants as asked
 use Rattle.play_cover.specs.declared.coverage.Detail.{Detail}
-use Rattle.play_cover.specs.declared.coverage.Detail.TheVariants as detail
 
 -- nothing is marked
 abbrev pub none_shown : Mark → Bool
@@ -52,8 +50,8 @@ module _ (is_covered : Mark → Bool) (cave : CaveView) (known : KnownEntries) w
       left_count rule_rows is_covered known + length (left_ways is_covered cave known ways)
 
 abbrev pub detail_of : TextView → Detail
-detail_of asked.Counts = detail.Counts
-detail_of asked.Texts = detail.Missing
+detail_of TextView.Counts = Detail.Counts
+detail_of TextView.Texts = Detail.Missing
 
 -- the line that sums up
 abbrev pub text_sums : ℕ → ℕ → ℕ → List ℕ

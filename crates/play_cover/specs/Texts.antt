@@ -8,9 +8,7 @@ use Rattle.cave_data.specs.CaveView.{CaveView, Rated, class_of, look_of, name_of
 use Rattle.turn_ends.specs.Score.{max_score_of}
 use Rattle.data_rows.specs.Role.{ROLE_NAMES, role_number}
 use Rattle.cave_world.specs.declared.part.Part.{Part}
-use Rattle.cave_world.specs.declared.part.Part.TheVariants as part
 use Rattle.check_tables.specs.declared.text_kinds.TextKind.{TextKind}
-use Rattle.check_tables.specs.declared.text_kinds.TextKind.TheVariants as kind
 use Rattle.check_tables.specs.TextKinds.{PROPS_PER_OBJECT, first_line_shown, heading_of_kind}
 use Rattle.check_tables.specs.TextKinds.{kind_number, kinds, name_of_text, text_at, word_of_kind}
 use Rattle.play_cover.specs.Coverage.{Catalogue}
@@ -41,14 +39,14 @@ is_class_reached cave bound =
 -- whether the cave has the text; a class to which no score of the cave belongs isn't one of its
 -- texts
 abbrev pub has_text : CaveView → TextKind → ℕ → Bool
-has_text cave kind.Long number = is_some (map.get cave.long number)
-has_text cave kind.Short number = is_some (map.get cave.short number)
-has_text cave kind.Look number =
+has_text cave TextKind.Long number = is_some (map.get cave.long number)
+has_text cave TextKind.Short number = is_some (map.get cave.short number)
+has_text cave TextKind.Look number =
     is_some (look_of cave (number / PROPS_PER_OBJECT) (number % PROPS_PER_OBJECT))
-has_text cave kind.Name number = is_some (name_of cave number)
-has_text cave kind.Message number = is_some (map.get cave.messages number)
-has_text cave kind.Role number = nat_lt number (length ROLE_NAMES)
-has_text cave kind.Class number = is_class_reached cave number
+has_text cave TextKind.Name number = is_some (name_of cave number)
+has_text cave TextKind.Message number = is_some (map.get cave.messages number)
+has_text cave TextKind.Role number = nat_lt number (length ROLE_NAMES)
+has_text cave TextKind.Class number = is_class_reached cave number
 
 -- the texts of a kind that the cave has, in ascending order
 unfoldable pub texts_of_kind : CaveView → TextKind → List ℕ
@@ -76,31 +74,31 @@ cave_texts cave = record {
 -- a role that is bound also says its message
 abbrev pub message_said : Option ℕ → List Mark
 message_said None = []
-message_said (Some number) = text kind.Message number ∷ []
+message_said (Some number) = text TextKind.Message number ∷ []
 
 abbrev pub class_said : Option Rated → List Mark
 class_said None = []
-class_said (Some rated) = text kind.Class rated.bound ∷ []
+class_said (Some rated) = text TextKind.Class rated.bound ∷ []
 
 abbrev pub look_said : CaveView → ℕ → ℤ → List Mark
 look_said cave object (pos prop) =
     if is_some (look_of cave object prop)
-    then text kind.Look (PROPS_PER_OBJECT * object + prop) ∷ [] else []
+    then text TextKind.Look (PROPS_PER_OBJECT * object + prop) ∷ [] else []
 look_said cave object (negsuc n) = []
 
 -- the texts that a part says; the game's own lines aren't texts of the cave
 unfoldable pub said_by_part : CaveView → Part → List Mark
-said_by_part cave (part.Long place) = text kind.Long place ∷ []
-said_by_part cave (part.Short place) = text kind.Short place ∷ []
-said_by_part cave (part.Object object prop) = look_said cave object prop
-said_by_part cave (part.Name object) = text kind.Name object ∷ []
-said_by_part cave (part.Message number) = text kind.Message number ∷ []
-said_by_part cave (part.Role role) =
-    text kind.Role (role_number role) ∷ message_said (map.get cave.roles (role_number role))
-said_by_part cave (part.Class score) = class_said (class_of cave score)
-said_by_part cave (part.Number form number most) = []
-said_by_part cave (part.Word form word) = []
-said_by_part cave (part.Turns score most) = []
+said_by_part cave (Part.Long place) = text TextKind.Long place ∷ []
+said_by_part cave (Part.Short place) = text TextKind.Short place ∷ []
+said_by_part cave (Part.Object object prop) = look_said cave object prop
+said_by_part cave (Part.Name object) = text TextKind.Name object ∷ []
+said_by_part cave (Part.Message number) = text TextKind.Message number ∷ []
+said_by_part cave (Part.Role role) =
+    text TextKind.Role (role_number role) ∷ message_said (map.get cave.roles (role_number role))
+said_by_part cave (Part.Class score) = class_said (class_of cave score)
+said_by_part cave (Part.Number form number most) = []
+said_by_part cave (Part.Word form word) = []
+said_by_part cave (Part.Turns score most) = []
 
 abbrev pub said_by_all : CaveView → List Part → List Mark
 said_by_all cave parts = flat_map (said_by_part cave) parts

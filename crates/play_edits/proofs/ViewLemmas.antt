@@ -9,7 +9,6 @@ use Rattle.cave_replay.specs.Session.{SessionView}
 use Rattle.cave_world.specs.declared.state.State.{State}
 use Rattle.play_command.specs.Asked.{edit_view_of}
 use Rattle.play_command.specs.declared.views.ReportView.{ReportView}
-use Rattle.play_command.specs.declared.views.ReportView.TheVariants as side
 use Rattle.play_command.specs.declared.line.Editing.{Editing}
 use Rattle.play_command.specs.declared.views.EditView.{EditView}
 use Rattle.play_command.specs.declared.views.EditView.TheVariants.{Transcript, Play, Log, Reports}
@@ -111,8 +110,8 @@ module _ (cave : CaveView) (every : ℕ) (items : List Applied) (game : Game) (g
 
 -- no report beside a view has what takes items back
 not_undo : (view : ReportView) → edit_view_of view ≡ Undo → ⊥
-not_undo side.Reports is = cc
-not_undo side.Table is = cc
+not_undo ReportView.Reports is = cc
+not_undo ReportView.Table is = cc
 
 -- of the items of a script that were applied to what a session held
 module _ (old : SessionView CaveMachine Piece State) (editing : Editing) (script : List ℕ)

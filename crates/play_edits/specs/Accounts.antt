@@ -8,7 +8,6 @@ use Rattle.cave_world.specs.declared.ending.Ending.{Ending}
 use Rattle.replay_edits.specs.Edit.{Game, changes_of}
 use Rattle.replay_edits.specs.Faults.{edit_fault_text}
 use Rattle.replay_edits.specs.declared.fault.EditFault.{EditFault}
-use Rattle.replay_edits.specs.declared.fault.EditFault.TheVariants as cause
 use Rattle.replay_scripts.specs.Script.{Applied}
 use Rattle.play_tables.specs.ItemRow.{met_column, accepted_row, item_head_row, refused_row}
 use Rattle.play_state_text.specs.Words.{ending_word}
@@ -27,11 +26,8 @@ use Rattle.play_machine.specs.Machine.{cave_rules}
 
 -- what is said of the fault of an edit of a script
 abbrev pub edit_words : EditFault → List ℕ
-edit_words cause.EmptyGroup = codes "an empty group: put an edit between `begin` and `end`"
+edit_words EditFault.EmptyGroup = codes "an empty group: put an edit between `begin` and `end`"
 edit_words fault = edit_fault_text fault
-
-abbrev pub place_text : ℕ → List ℕ
-place_text place = codes ", which is at " ++ decimal place
 
 abbrev pub expected_words : KeptLine → List ℕ
 expected_words line = codes "; expected " ++ shown_kept_line line
@@ -40,17 +36,14 @@ expected_words line = codes "; expected " ++ shown_kept_line line
 abbrev pub expected_text : ExpectedLine → List ℕ
 expected_text Impossible = codes "; expected a line that no log may have"
 expected_text (Nowhere line) = expected_words line ++ codes ", which is nowhere"
-expected_text (At line at) = expected_words line ++ place_text at
-
--- what is said of a guard's place in a log of this many lines, which has none there
-abbrev pub no_line_text : ℕ → List ℕ
-no_line_text lines = codes "no line: the log has " ++ decimal lines
+expected_text (At line at) = expected_words line ++ (codes ", which is at " ++ decimal at)
 
 -- what is said of a refusal after its number; of a guard also the line that the log has, and what
 -- was expected
 abbrev pub refusal_said : Refusal → List ℕ
 refusal_said (Edit at fault) = edit_words fault
-refusal_said (NoLine at lines expected) = no_line_text lines ++ expected_text expected
+refusal_said (NoLine at lines expected) =
+    (codes "no line: the log has " ++ decimal lines) ++ expected_text expected
 refusal_said (OtherLine at line expected) =
     codes "another line: " ++ (shown_kept_line line ++ expected_text expected)
 
@@ -76,9 +69,10 @@ refusal_text refusal =
 -- where the replay of an item began and met the old play, and how many of the lines it played
 abbrev pub replay_text : Applied → GroupReport → List ℕ
 replay_text item done =
-    codes "line " ++ (decimal item.line ++ (codes ": ok, from " ++ (decimal done.from
-    ++ (codes ", met " ++ (met_column done.met ++ (codes ", played " ++ (decimal done.played
-    ++ (codes " of " ++ decimal done.lines))))))))
+    (codes "line " ++ (decimal item.line ++ (codes ": ok, from " ++ (decimal done.from
+    ++ codes ", met "))))
+    ++ (met_column done.met
+    ++ (codes ", played " ++ (decimal done.played ++ (codes " of " ++ decimal done.lines))))
 
 -- what is written of an item: what it replayed, and where the game is then; or why it was refused
 abbrev pub account_by : Applied → ItemOutcome → Standing → List ℕ

@@ -6,7 +6,6 @@ use Rattle.std.specs.List.{list_all}
 use Rattle.std.specs.Option.{unwrap_or}
 use Rattle.std.specs.Str.Lines.{lines}
 use Rattle.play_command.specs.declared.views.EditView.{EditView}
-use Rattle.play_command.specs.declared.views.EditView.TheVariants as asked
 use Rattle.play_edits.specs.Items.{game_after_item}
 use Rattle.play_edits.specs.Refusal.{item_refusal}
 use Rattle.play_edits.specs.contracts.ends.LineEndPartialEq.TheImpl as line_end_eq
@@ -149,7 +148,7 @@ ends_after_items (item ∷ items) game ends =
 -- What is printed of the text that a view made. A line of a log has its own end. A line of the
 -- script has the usual one.
 abbrev pub ended_view : EditView → EndsOfLog → List ℕ → List ℕ
-ended_view asked.Log ends text = ended_text ends.usual ends.unended ends.each (lines text)
-ended_view asked.Undo ends text = ended_text ends.usual false [] (lines text)
-ended_view asked.Guarded ends text = ended_text ends.usual false [] (lines text)
+ended_view EditView.Log ends text = ended_text ends.usual ends.unended ends.each (lines text)
+ended_view EditView.Undo ends text = ended_text ends.usual false [] (lines text)
+ended_view EditView.Guarded ends text = ended_text ends.usual false [] (lines text)
 ended_view _ ends text = text

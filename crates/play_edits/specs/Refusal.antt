@@ -9,7 +9,6 @@ use Rattle.replay_edits.specs.Edit.{Change, changes_of, log_of}
 use Rattle.replay_edits.specs.declared.draft.Draft.{Draft}
 use Rattle.replay_edits.specs.Faults.{fault_of_all, group_fault, log_after_all}
 use Rattle.replay_edits.specs.declared.fault.EditFault.{EditFault}
-use Rattle.replay_edits.specs.declared.fault.EditFault.TheVariants as cause
 use Rattle.replay_edits.specs.declared.fault.GroupFault.{GroupFault}
 use Rattle.replay_scripts.specs.Script.{Applied, Expectation, line_of_refusal}
 use Rattle.play_edits.specs.declared.refusal.KeptLine.{KeptLine}
@@ -38,13 +37,13 @@ shown_kept_line kept = take kept.len kept.bytes
 -- ---- the number of a refusal
 
 abbrev pub edit_number : EditFault → ℕ
-edit_number (cause.NoSuchPlace lines) = 1
-edit_number (cause.BadLine flaw) = 2
-edit_number cause.LogFull = 3
-edit_number cause.BadSeed = 4
-edit_number cause.MeterFull = 5
-edit_number cause.Memory = 6
-edit_number cause.EmptyGroup = 7
+edit_number (EditFault.NoSuchPlace lines) = 1
+edit_number (EditFault.BadLine flaw) = 2
+edit_number EditFault.LogFull = 3
+edit_number EditFault.BadSeed = 4
+edit_number EditFault.MeterFull = 5
+edit_number EditFault.Memory = 6
+edit_number EditFault.EmptyGroup = 7
 
 -- the number by which a report names a refusal
 abbrev pub refusal_number : Refusal → ℕ

@@ -3,7 +3,6 @@
 use Rattle.std.specs.Prelude.{ℕ, Bool, true, false, List, [], ◌∷◌, ◌++◌, map, reverse, Option, None}
 use Rattle.std.specs.Prelude.{Some, slice_get, option_map, Ok, Err, if◌then◌else◌, is_none}
 use Rattle.play_command.specs.declared.views.EditView.{EditView}
-use Rattle.play_command.specs.declared.views.EditView.TheVariants as asked
 use Rattle.replay_edits.specs.Edit.{Change, Game, changes_of, inverses_of, log_after, inserts}
 use Rattle.replay_edits.specs.Edit.{deletes, replaces, reseeds}
 use Rattle.replay_edits.specs.LineText.{LineText}
@@ -56,7 +55,7 @@ back_by guarded (Err refusal) log = []
 
 -- what takes items back is kept if the view asks for it
 abbrev pub asks_backs : EditView → Bool
-asks_backs asked.Undo = true
+asks_backs EditView.Undo = true
 asks_backs _ = false
 
 abbrev pub if_asked : EditView → List (List Back) → List (List Back)

@@ -4,7 +4,6 @@ use Rattle.cave_data.specs.CaveView.{CaveView}
 use Rattle.cave_replay.specs.LogText.{log_text}
 use Rattle.cave_world.specs.declared.state.State.{State}
 use Rattle.play_command.specs.declared.views.EditView.{EditView}
-use Rattle.play_command.specs.declared.views.EditView.TheVariants as asked
 use Rattle.play_edits.specs.Accounts.{account_by, text_of_items, totals_line, last_state, row_by}
 use Rattle.play_edits.specs.Undo.{guarded_group, text_if_done}
 use Rattle.play_edits.specs.Items.{game_after_item, game_after_items, item_report_by}
@@ -20,28 +19,28 @@ use Rattle.std.specs.List.{sum_by}
 
 -- before all items
 abbrev pub text_at_start : Option EditView → List ℕ
-text_at_start (Some asked.Table) = item_head_row
+text_at_start (Some EditView.Table) = item_head_row
 text_at_start _ = []
 
 -- what it keeps of the game before an item: the state, for the row of the item in a table
 abbrev pub state_before : Option EditView → CaveView → Game → Option State
-state_before (Some asked.Table) cave game = Some (last_state cave game)
+state_before (Some EditView.Table) cave game = Some (last_state cave game)
 state_before _ cave game = None
 
 -- or the item with guards of the log
 abbrev pub guarded_before : Option EditView → Applied → Game → List ℕ
-guarded_before (Some asked.Guarded) item game = guarded_group item.changes game.log
+guarded_before (Some EditView.Guarded) item game = guarded_group item.changes game.log
 guarded_before _ item game = []
 
 -- what it writes of the item by that, if this is the game after it
 abbrev pub text_after : Option EditView → CaveView → Applied → ItemOutcome → Option State → List ℕ
     → Game → List ℕ
-text_after (Some asked.Transcript) cave item outcome state guarded game =
+text_after (Some EditView.Transcript) cave item outcome state guarded game =
     item_report_by item (refusal_in outcome)
-text_after (Some asked.Guarded) cave item outcome state guarded game = text_if_done outcome guarded
-text_after (Some asked.Reports) cave item outcome state guarded game =
+text_after (Some EditView.Guarded) cave item outcome state guarded game = text_if_done outcome guarded
+text_after (Some EditView.Reports) cave item outcome state guarded game =
     account_by item outcome (standing_of cave game)
-text_after (Some asked.Table) cave item outcome (Some before) guarded game =
+text_after (Some EditView.Table) cave item outcome (Some before) guarded game =
     row_by item outcome before (standing_of cave game) (last_state cave game)
 text_after _ cave item outcome state guarded game = []
 
@@ -52,15 +51,15 @@ text_of_item view cave item game outcome = text_after view cave item outcome
 -- after all items, if they leave this game, this many lines were played for them instead of so
 -- many, and these changes take them back
 abbrev pub text_at_end : Option EditView → CaveView → Game → ℕ → ℕ → List (List Back) → List ℕ
-text_at_end (Some asked.Transcript) cave game played lines backs = play_text cave game
-text_at_end (Some asked.Play) cave game played lines backs = play_text cave game
-text_at_end (Some asked.Log) cave game played lines backs = log_text game.log
-text_at_end (Some asked.Undo) cave game played lines backs = script_text backs
-text_at_end (Some asked.Reports) cave game played lines backs = totals_line played lines
-text_at_end (Some asked.Steps) cave game played lines backs = steps_text cave game
-text_at_end (Some asked.Walk) cave game played lines backs = walk_text cave game
-text_at_end (Some asked.Score) cave game played lines backs = score_text cave game
-text_at_end (Some asked.FinalState) cave game played lines backs = final_state_text cave game
+text_at_end (Some EditView.Transcript) cave game played lines backs = play_text cave game
+text_at_end (Some EditView.Play) cave game played lines backs = play_text cave game
+text_at_end (Some EditView.Log) cave game played lines backs = log_text game.log
+text_at_end (Some EditView.Undo) cave game played lines backs = script_text backs
+text_at_end (Some EditView.Reports) cave game played lines backs = totals_line played lines
+text_at_end (Some EditView.Steps) cave game played lines backs = steps_text cave game
+text_at_end (Some EditView.Walk) cave game played lines backs = walk_text cave game
+text_at_end (Some EditView.Score) cave game played lines backs = score_text cave game
+text_at_end (Some EditView.FinalState) cave game played lines backs = final_state_text cave game
 text_at_end _ cave game played lines backs = []
 
 -- all that it writes

@@ -8,7 +8,6 @@ use Rattle.cave_replay.specs.LogText.{log_text}
 use Rattle.play_command.specs.Asked.{edit_view_of}
 use Rattle.play_command.specs.declared.views.ReportView.{ReportView}
 use Rattle.play_command.specs.declared.views.EditView.{EditView}
-use Rattle.play_command.specs.declared.views.EditView.TheVariants as asked
 use Rattle.play_edits.specs.Accounts.{accounts, table_text}
 use Rattle.play_edits.specs.Edits.{ending_refusal}
 use Rattle.play_edits.specs.Ends.{EndsOfLog, ended_view, ends_after_items, log_ends}
@@ -63,25 +62,25 @@ pub record IsGuarded (items : List Applied) (game : Game) (text : List ℕ) : Ty
 -- the text is what the view asks for of the items that edit the game in the cave, by their outcomes
 abbrev pub IsViewOf : EditView → CaveView → Game → Bool → List Applied → List ItemOutcome → List ℕ
     → Type 0
-IsViewOf asked.Transcript cave game guarded items outcomes text =
+IsViewOf EditView.Transcript cave game guarded items outcomes text =
     text ≡ reports items game ++ play_text cave (game_after_items items game)
-IsViewOf asked.Play cave game guarded items outcomes text =
+IsViewOf EditView.Play cave game guarded items outcomes text =
     text ≡ play_text cave (game_after_items items game)
-IsViewOf asked.Log cave game guarded items outcomes text =
+IsViewOf EditView.Log cave game guarded items outcomes text =
     IsLogOf (game_after_items items game) text
-IsViewOf asked.Undo cave game guarded items outcomes text = IsUndo guarded items game text
-IsViewOf asked.Guarded cave game guarded items outcomes text = IsGuarded items game text
-IsViewOf asked.Reports cave game guarded items outcomes text =
+IsViewOf EditView.Undo cave game guarded items outcomes text = IsUndo guarded items game text
+IsViewOf EditView.Guarded cave game guarded items outcomes text = IsGuarded items game text
+IsViewOf EditView.Reports cave game guarded items outcomes text =
     text ≡ accounts cave items game outcomes
-IsViewOf asked.Table cave game guarded items outcomes text =
+IsViewOf EditView.Table cave game guarded items outcomes text =
     text ≡ table_text cave items game outcomes
-IsViewOf asked.Steps cave game guarded items outcomes text =
+IsViewOf EditView.Steps cave game guarded items outcomes text =
     text ≡ steps_text cave (game_after_items items game)
-IsViewOf asked.Walk cave game guarded items outcomes text =
+IsViewOf EditView.Walk cave game guarded items outcomes text =
     text ≡ walk_text cave (game_after_items items game)
-IsViewOf asked.Score cave game guarded items outcomes text =
+IsViewOf EditView.Score cave game guarded items outcomes text =
     text ≡ score_text cave (game_after_items items game)
-IsViewOf asked.FinalState cave game guarded items outcomes text =
+IsViewOf EditView.FinalState cave game guarded items outcomes text =
     text ≡ final_state_text cave (game_after_items items game)
 
 -- The script, some of whose lines may be guards, edits the game, whose play was opened with
@@ -117,9 +116,9 @@ IsEndedEdit view cave every log seed guarded script played output =
 
 -- the log, or the script that takes items back or has them with guards, that is printed of a game
 abbrev pub text_to_read : EditView → Bool → List Applied → Game → List ℕ
-text_to_read asked.Log guarded items game = log_text (game_after_items items game).log
-text_to_read asked.Undo guarded items game = undo_text guarded items game
-text_to_read asked.Guarded guarded items game = guarded_text items game
+text_to_read EditView.Log guarded items game = log_text (game_after_items items game).log
+text_to_read EditView.Undo guarded items game = undo_text guarded items game
+text_to_read EditView.Guarded guarded items game = guarded_text items game
 text_to_read _ guarded items game = []
 
 -- ---- what is made beside it

@@ -1,6 +1,7 @@
 //! The scripts of the accepted items of a script: what takes them back, and the items with guards.
 
 ghost use Rattle.std.specs.Prelude.{◌≡◌, ◌++◌, IfOk, None, OnOk, map, option_map, take};
+ghost use Rattle.base_text.specs.Text.{Tells};
 ghost use Rattle.replay_edits.specs.Draft.{IsDraft, edits_in, log_before, made_in};
 ghost use Rattle.replay_edits.specs.Edit.{change_of, changes_of, log_of};
 ghost use Rattle.replay_edits.specs.Faults.{fault_of_all, log_after_all};
@@ -10,6 +11,7 @@ ghost use Rattle.play_edits.specs.Undo.{expecting, if_asked, lines_in, without_g
 ghost use Rattle.play_edits.specs.Undo.{guarded_group, text_if_done};
 
 use crate::refusal::Refusal;
+use base_text::Text;
 use cave_replay::{GroupReport, Session};
 use play_command::{EditView, Editing};
 use play_machine::CaveMachine;
@@ -184,16 +186,11 @@ pub(crate) fn guarded_group(
     Ok(text)
 }
 
-/// Appends the text of an item, unless the item was refused.
-pub(crate) fn push_if_done(
-    text: &mut Vec<u8>,
-    outcome: &Result<GroupReport, Refusal>,
-    item: &[u8],
-) -> Result<(), AllocError>
-    ensures { OnOk result (text.new.items ≡ text.old.items ++ text_if_done outcome.now item.now) }
+/// Writes the text of an item, unless the item was refused.
+pub(crate) fn put_if_done(text: &mut Text, outcome: &Result<GroupReport, Refusal>, item: &[u8])
+    ensures { Tells (text_if_done outcome.now item.now) text.old text.new }
 {
-    match outcome {
-        Ok(_) => text.extend_from_slice(item),
-        Err(_) => Ok(()),
+    if outcome.is_ok() {
+        text.put(item);
     }
 }

@@ -8,8 +8,9 @@ ghost use Rattle.play_edits.specs.ViewText.{text_at_start, text_after};
 
 use crate::outcome::Totals;
 use crate::refusal::Refusal;
-use crate::reports::{last_state, push_account, push_report, push_row, push_totals};
-use crate::undo::{guarded_group, push_if_done};
+use crate::reports::{last_state, put_account, put_report, put_row, put_totals};
+use crate::undo::{guarded_group, put_if_done};
+use base_text::Text;
 use cave_replay::{GroupReport, Session};
 use cave_world::State;
 use play_command::EditView;
@@ -92,17 +93,17 @@ impl ViewText {
             ++ text_after self.old.view session.now.machine.rules.cave.now (applied_item item.now)
             outcome.now self.old.state self.old.guarded.items session.now.game) }
     {
-        let (view, state) = (self.view, &self.state);
-        let text = &mut self.text;
-        match (view, state) {
-            (Some(EditView::Transcript), _) => push_report(alloc, text, item, outcome),
-            (Some(EditView::Reports), _) => push_account(alloc, text, session, item, outcome),
+        let mut text = Text::after(alloc, &mut self.text);
+        match (self.view, &self.state) {
+            (Some(EditView::Transcript), _) => put_report(&mut text, item, outcome),
+            (Some(EditView::Reports), _) => put_account(&mut text, session, item, outcome),
             (Some(EditView::Table), Some(before)) => {
-                push_row(alloc, text, session, item, outcome, before)
+                put_row(&mut text, session, item, outcome, before)
             }
-            (Some(EditView::Guarded), _) => push_if_done(text, outcome, &self.guarded),
-            _ => Ok(()),
+            (Some(EditView::Guarded), _) => put_if_done(&mut text, outcome, &self.guarded),
+            _ => {}
         }
+        text.give_to(&mut self.text)
     }
 
     /// Appends what the view says after all items.
@@ -123,7 +124,11 @@ impl ViewText {
             Some(EditView::Transcript | EditView::Play) => push_play(alloc, session, text),
             Some(EditView::Log) => session.push_log(text),
             Some(EditView::Undo) => push_script(alloc, text, backs),
-            Some(EditView::Reports) => push_totals(alloc, text, totals),
+            Some(EditView::Reports) => {
+                let mut report = Text::after(alloc, text);
+                put_totals(&mut report, totals);
+                report.give_to(text)
+            }
             Some(EditView::Steps) => push_steps(alloc, session, text),
             Some(EditView::Walk) => push_walk(alloc, session, text),
             Some(EditView::Score) => push_score(alloc, session, text),

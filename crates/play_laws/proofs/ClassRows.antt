@@ -25,7 +25,6 @@ use Rattle.data_rows.proofs.RowLemmas.{entry-read}
 use Rattle.data_lines.specs.Marks.{is_class_from, mark_at, mark_of, marked_rows, with_marked_row}
 use Rattle.data_lines.specs.declared.mark.MarkedRow.{MarkedRow}
 use Rattle.data_lines.specs.declared.mark.RowMark.{RowMark}
-use Rattle.data_lines.specs.declared.mark.RowMark.TheVariants as mark
 use Rattle.turn_ends.specs.Score.{max_score_of}
 use Rattle.check_doubts.specs.Classes.{has_class, is_first_class, is_taken}
 use Rattle.check_doubts.specs.declared.flaw.CaveFlaw.TheVariants.{Classless, UnscoredClass}
@@ -37,7 +36,7 @@ abbrev pub row_bounds : List Entry → List ℕ
 row_bounds rows = map (λ line. line.number) (filter_map class_line_of rows)
 
 object_bound : (number : ℕ) (rest : List MarkedRow) (line : TextLine) (names : Bool)
-    → bounds (with_marked_row number (cond names (Some (mark.Name line.number)) None) rest)
+    → bounds (with_marked_row number (cond names (Some (RowMark.Name line.number)) None) rest)
     ≡ bounds rest
 object_bound number rest line true = refl
 object_bound number rest line false = refl
@@ -130,7 +129,7 @@ bound_test score row rows same = by row.mark same
     by : (m : RowMark) → list_any (is_class_from score) rows ≡ list_any (nat_le score) (bounds rows)
         → list_any (is_class_from score) (record { line = row.line; mark = m } ∷ rows)
         ≡ list_any (nat_le score) (bounds (record { line = row.line; mark = m } ∷ rows))
-    by (mark.Class bound) same = ap (λ b. nat_le score bound || b) same
+    by (RowMark.Class bound) same = ap (λ b. nat_le score bound || b) same
     by _ same = same
 
 bounds_tested : (score : ℕ) (rows : List MarkedRow)

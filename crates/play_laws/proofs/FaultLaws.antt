@@ -3,7 +3,6 @@ use Rattle.cave_play.proofs.AcceptedLogs.{IsGame-accepted}
 use Rattle.base_lines.specs.Limits.{MAX_LOG_LINES, MAX_SEED}
 use Rattle.base_lines.specs.Line.{flaw_of, is_line}
 use Rattle.cave_play.specs.Stages.{IsFoundIn, IsOutsideOf, Stage, first_decided}
-use Rattle.cave_play.specs.declared.fault.PlayFault.TheVariants as fault
 use Rattle.cave_play.specs.declared.fault.PlayFault.{PlayFault}
 use Rattle.play_command.specs.declared.line.Input.{Input}
 use Rattle.play_edits.proofs.EditLemmas.{IsGame-after_all}
@@ -31,22 +30,22 @@ use Rattle.std.specs.declared.option.Option.{Option}
 
 outside_of : (reads : Option Input) (found : PlayFault) → IsOutsideOf reads found
     → IsFromOutside found
-outside_of reads fault.Memory outside = tt
-outside_of reads (fault.Read from) outside = tt
-outside_of reads (fault.Cave error clue) outside = absurd outside
-outside_of reads (fault.Doubt found) outside = absurd outside
-outside_of reads fault.LargeKnown outside = absurd outside
-outside_of reads (fault.Unshown count) outside = absurd outside
-outside_of reads (fault.Unmapped place) outside = absurd outside
-outside_of reads fault.Seed outside = absurd outside
-outside_of reads fault.Every outside = absurd outside
-outside_of reads (fault.Log refused) outside = absurd outside
-outside_of reads (fault.NewLog refused) outside = absurd outside
-outside_of reads (fault.Script refused) outside = absurd outside
-outside_of reads (fault.Refused refusal) outside = absurd outside
-outside_of reads fault.LargeLog outside = absurd outside
-outside_of reads fault.LargeScript outside = absurd outside
-outside_of reads fault.Write outside = absurd outside
+outside_of reads PlayFault.Memory outside = tt
+outside_of reads (PlayFault.Read from) outside = tt
+outside_of reads (PlayFault.Cave error clue) outside = absurd outside
+outside_of reads (PlayFault.Doubt found) outside = absurd outside
+outside_of reads PlayFault.LargeKnown outside = absurd outside
+outside_of reads (PlayFault.Unshown count) outside = absurd outside
+outside_of reads (PlayFault.Unmapped place) outside = absurd outside
+outside_of reads PlayFault.Seed outside = absurd outside
+outside_of reads PlayFault.Every outside = absurd outside
+outside_of reads (PlayFault.Log refused) outside = absurd outside
+outside_of reads (PlayFault.NewLog refused) outside = absurd outside
+outside_of reads (PlayFault.Script refused) outside = absurd outside
+outside_of reads (PlayFault.Refused refusal) outside = absurd outside
+outside_of reads PlayFault.LargeLog outside = absurd outside
+outside_of reads PlayFault.LargeScript outside = absurd outside
+outside_of reads PlayFault.Write outside = absurd outside
 
 decided_after : (stage : Stage) (stages : List Stage) (found : PlayFault)
     → stage.decides ≡ None → IsDecided stages found → IsDecided (stage ∷ stages) found

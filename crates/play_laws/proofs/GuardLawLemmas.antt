@@ -7,7 +7,6 @@ use Rattle.std.specs.Str.Lines.{lines}
 use Rattle.std.proofs.lemmas.List.Elements.{All-head, All-tail}
 use Rattle.cave_data.specs.CaveView.{CaveView}
 use Rattle.play_command.specs.declared.views.EditView.{EditView}
-use Rattle.play_command.specs.declared.views.EditView.TheVariants as asked
 use Rattle.play_edits.specs.Items.{game_after_item, game_after_items}
 use Rattle.play_edits.specs.Outcome.{ItemOutcome}
 use Rattle.play_edits.proofs.GuardLemmas.{guards_refuse_alone}
@@ -58,17 +57,17 @@ other_view : (view : EditView) (cave : CaveView) (game : Game) (first second : B
     (items : List Applied) (outcomes : List ItemOutcome) (text : List ℕ) → PrintsNoGuards view
     → IsViewOf view cave game first items outcomes text
     → IsViewOf view cave game second items outcomes text
-other_view asked.Transcript cave game first second items outcomes text free is = is
-other_view asked.Play cave game first second items outcomes text free is = is
-other_view asked.Log cave game first second items outcomes text free is = is
-other_view asked.Undo cave game first second items outcomes text free is = absurd free
-other_view asked.Guarded cave game first second items outcomes text free is = is
-other_view asked.Reports cave game first second items outcomes text free is = is
-other_view asked.Table cave game first second items outcomes text free is = is
-other_view asked.Steps cave game first second items outcomes text free is = is
-other_view asked.Walk cave game first second items outcomes text free is = is
-other_view asked.Score cave game first second items outcomes text free is = is
-other_view asked.FinalState cave game first second items outcomes text free is = is
+other_view EditView.Transcript cave game first second items outcomes text free is = is
+other_view EditView.Play cave game first second items outcomes text free is = is
+other_view EditView.Log cave game first second items outcomes text free is = is
+other_view EditView.Undo cave game first second items outcomes text free is = absurd free
+other_view EditView.Guarded cave game first second items outcomes text free is = is
+other_view EditView.Reports cave game first second items outcomes text free is = is
+other_view EditView.Table cave game first second items outcomes text free is = is
+other_view EditView.Steps cave game first second items outcomes text free is = is
+other_view EditView.Walk cave game first second items outcomes text free is = is
+other_view EditView.Score cave game first second items outcomes text free is = is
+other_view EditView.FinalState cave game first second items outcomes text free is = is
 
 other_edit : (view : EditView) (cave : CaveView) (every : ℕ) (log script output : List ℕ)
     (seed played : ℕ) (first second : Bool) → PrintsNoGuards view

@@ -19,7 +19,6 @@ use Rattle.play_command.specs.declared.views.ReportView.{ReportView}
 use Rattle.play_command.specs.declared.views.ReportView.TheVariants.{Reports, Table}
 use Rattle.play_command.specs.declared.line.Editing.{Editing}
 use Rattle.play_command.specs.declared.views.EditView.{EditView}
-use Rattle.play_command.specs.declared.views.EditView.TheVariants as asked
 use Rattle.play_edits.specs.Items.{game_after_items}
 use Rattle.play_edits.specs.Outcome.{AreOutcomes, ItemOutcome}
 use Rattle.play_machine.specs.FinalState.{final_state_text, score_text}
@@ -42,36 +41,36 @@ view_by : (view : EditView) (cave : CaveView) (game : Game) (guarded : Bool)
     (one other : List Applied) (outcomes : List ItemOutcome) (text : List ℕ)
     → GiveTheSame cave game one other → IsViewOf view cave game guarded one outcomes text
     → IsViewOf view cave game guarded other outcomes text
-view_by asked.Transcript cave game guarded one other outcomes text same is =
+view_by EditView.Transcript cave game guarded one other outcomes text same is =
     is ∙ ap₂ (λ told after. told ++ play_text cave after) same.reported same.games
-view_by asked.Play cave game guarded one other outcomes text same is =
+view_by EditView.Play cave game guarded one other outcomes text same is =
     is ∙ ap (play_text cave) same.games
-view_by asked.Log cave game guarded one other outcomes text same is =
+view_by EditView.Log cave game guarded one other outcomes text same is =
     subst (λ after. IsLogOf after text) same.games is
-view_by asked.Undo cave game guarded one other outcomes text same is = record {
+view_by EditView.Undo cave game guarded one other outcomes text same is = record {
   written = is.written ∙ same.undone guarded;
   backs = is.backs;
   spelled = is.spelled;
   accepted = ap (ending_refusal true is.backs) (sym same.games) ∙ is.accepted;
   back = ap (game_after_items is.backs) (sym same.games) ∙ is.back;
 }
-view_by asked.Guarded cave game guarded one other outcomes text same is = record {
+view_by EditView.Guarded cave game guarded one other outcomes text same is = record {
   written = is.written ∙ same.guarded;
   again = is.again;
   spelled = is.spelled;
   accepted = is.accepted;
   same = is.same ∙ same.games;
 }
-view_by asked.Reports cave game guarded one other outcomes text same is =
+view_by EditView.Reports cave game guarded one other outcomes text same is =
     is ∙ same.accounted outcomes
-view_by asked.Table cave game guarded one other outcomes text same is = is ∙ same.listed outcomes
-view_by asked.Steps cave game guarded one other outcomes text same is =
+view_by EditView.Table cave game guarded one other outcomes text same is = is ∙ same.listed outcomes
+view_by EditView.Steps cave game guarded one other outcomes text same is =
     is ∙ ap (steps_text cave) same.games
-view_by asked.Walk cave game guarded one other outcomes text same is =
+view_by EditView.Walk cave game guarded one other outcomes text same is =
     is ∙ ap (walk_text cave) same.games
-view_by asked.Score cave game guarded one other outcomes text same is =
+view_by EditView.Score cave game guarded one other outcomes text same is =
     is ∙ ap (score_text cave) same.games
-view_by asked.FinalState cave game guarded one other outcomes text same is =
+view_by EditView.FinalState cave game guarded one other outcomes text same is =
     is ∙ ap (final_state_text cave) same.games
 
 -- one script edits the log as another does

@@ -13,7 +13,6 @@ use Rattle.replay_scripts.specs.Guards.{script_by, unguarded, guarded_script_of}
 use Rattle.replay_scripts.specs.Script.{Applied, Expectation, group_of, guarded_by, single}
 use Rattle.std.specs.List.{AllByRecursion}
 use Rattle.cave_data.specs.CaveView.{CaveView}
-use Rattle.play_command.specs.declared.views.EditView.TheVariants as asked
 use Rattle.play_edits.specs.Items.{game_after_item}
 use Rattle.play_edits.specs.Laws.{IsMet}
 use Rattle.replay_scripts.specs.Line.{expected_in, IsExpected, IsWord, Spells}
@@ -27,7 +26,7 @@ HasNoGuard script = All (λ line. expected_in line ≡ None) (lines script)
 
 -- the view has no guards, or has them whether or not the run is guarded
 abbrev pub PrintsNoGuards : EditView → Type 0
-PrintsNoGuards asked.Undo = ⊥
+PrintsNoGuards EditView.Undo = ⊥
 PrintsNoGuards _ = ⊤
 
 -- a script without guards gives the same items, or the same refusal
@@ -56,9 +55,9 @@ abbrev pub MetGuardsNoOtherLog : Type 0
 MetGuardsNoOtherLog =
     (cave : CaveView) (every : ℕ) (log script blanked one other : List ℕ) (seed played again : ℕ)
     → log_fault log ≡ None → large_seed seed ≡ None → lines blanked ≡ unguarded (lines script)
-    → (edit : IsEndedEdit asked.Log cave every log seed true script played one)
+    → (edit : IsEndedEdit EditView.Log cave every log seed true script played one)
     → AreMet edit.edit.items (game_of seed (lines log))
-    → IsEndedEdit asked.Log cave every log seed false blanked again other
+    → IsEndedEdit EditView.Log cave every log seed false blanked again other
     → lines one ≡ lines other
 
 -- a script has blank lines in the place of the guards of another, and each line ends as it did

@@ -16,10 +16,8 @@ use Rattle.play_edits.specs.Items.{game_after_items}
 use Rattle.cave_play.specs.Output.{IsChecked, IsPlayed, IsEdited}
 use Rattle.play_edits.specs.Refusal.{group_refusal}
 use Rattle.cave_play.specs.declared.fault.PlayFault.{PlayFault}
-use Rattle.cave_play.specs.declared.fault.PlayFault.TheVariants as fault
 use Rattle.play_command.specs.declared.views.EditView.{EditView}
 use Rattle.play_command.specs.declared.views.CheckView.{CheckView}
-use Rattle.play_command.specs.declared.views.EditView.TheVariants as asked
 use Rattle.play_command.specs.declared.views.PlayView.{PlayView}
 
 -- a check of a database and its bindings has at most one output
@@ -35,8 +33,8 @@ OnePlayedOutput =
 
 -- the view doesn't depend on checkpoints
 abbrev pub KnowsNoCheckpoints : EditView → Type 0
-KnowsNoCheckpoints asked.Reports = ⊥
-KnowsNoCheckpoints asked.Table = ⊥
+KnowsNoCheckpoints EditView.Reports = ⊥
+KnowsNoCheckpoints EditView.Table = ⊥
 KnowsNoCheckpoints _ = ⊤
 
 -- an edit, which has a log, a script and a seed, has at most one output of the transcript, with
@@ -57,8 +55,8 @@ OneEditedOutput =
 
 -- a fault that no bytes decide
 abbrev pub IsFromOutside : PlayFault → Type 0
-IsFromOutside (fault.Read from) = ⊤
-IsFromOutside fault.Memory = ⊤
+IsFromOutside (PlayFault.Read from) = ⊤
+IsFromOutside PlayFault.Memory = ⊤
 IsFromOutside _ = ⊥
 
 -- the fault comes from outside, or is the first that a stage decides

@@ -8,14 +8,13 @@ use Rattle.data_rows.specs.declared.position.Position.TheVariants.{Outside}
 use Rattle.data_lines.specs.Marks.{marked_rows}
 use Rattle.data_lines.specs.declared.mark.MarkedRow.{MarkedRow}
 use Rattle.data_lines.specs.declared.mark.RowMark.{RowMark}
-use Rattle.data_lines.specs.declared.mark.RowMark.TheVariants as mark
 use Rattle.turn_ends.specs.Score.{max_score_of}
 use Rattle.check_doubts.specs.Classes.{class_flaw}
 use Rattle.check_doubts.specs.declared.flaw.CaveFlaw.TheVariants.{UnscoredClass}
 
 -- the bound of a class
 abbrev pub bound_of : RowMark → Option ℕ
-bound_of (mark.Class bound) = Some bound
+bound_of (RowMark.Class bound) = Some bound
 bound_of _ = None
 
 -- the bounds of the classes among rows
@@ -36,7 +35,7 @@ IsRowBetween database before row later =
 abbrev pub UnreachedIsOfNoScore : Type 0
 UnreachedIsOfNoScore = (database bindings : List ℕ) (cave : CaveView)
     → Reads database bindings cave → (before later : List MarkedRow) (row : MarkedRow) (bound : ℕ)
-    → IsRowBetween database before row later → row.mark ≡ mark.Class bound
+    → IsRowBetween database before row later → row.mark ≡ RowMark.Class bound
     → class_flaw cave bound before ≡ Some UnscoredClass
     → (score : ℕ) → score ≤ max_score_of cave → (rated : Rated)
     → class_of cave score ≡ Some rated → ¬ (rated.row ≡ class_number before)

@@ -5,7 +5,6 @@ use Rattle.std.specs.List.{enumerate_from, flat_map, zip}
 use Rattle.std.specs.Fmt.{decimal}
 use Rattle.base_lines.specs.LogLine.{log_line}
 use Rattle.base_lines.specs.declared.log_line.LogLine.{LogLine}
-use Rattle.base_lines.specs.declared.log_line.LogLine.TheVariants as kind
 use Rattle.cave_data.specs.CaveView.{CaveView}
 use Rattle.cave_replay.specs.Play.{state_after, texts_of, ticks_of}
 use Rattle.replay_edits.specs.Edit.{Game}
@@ -19,10 +18,10 @@ echo line = codes "\n> " ++ (line ++ codes "\n")
 
 -- comments and blank lines aren't shown
 abbrev pub is_shown : LogLine → Bool
-is_shown kind.Comment = false
-is_shown kind.Blank = false
-is_shown (kind.Seed seed) = true
-is_shown kind.Input = true
+is_shown LogLine.Comment = false
+is_shown LogLine.Blank = false
+is_shown (LogLine.Seed seed) = true
+is_shown LogLine.Input = true
 
 -- the last line of a transcript: the score, the greatest score of the cave, and the turns
 abbrev pub last_line : ℕ → ℕ → ℕ → List ℕ

@@ -5,7 +5,6 @@ use Rattle.std.proofs.lemmas.Bool.{false≢true}
 use Rattle.std.specs.Prelude.{if◌then◌else◌}
 use Rattle.cave_play.specs.Sources.{Says, IsTaken, held_for, next_log}
 use Rattle.play_command.specs.declared.line.Input.{Input}
-use Rattle.play_command.specs.declared.line.Input.TheVariants as input
 use Rattle.play_program.specs.Files.{is_same_input}
 use Rattle.play_program.specs.Sources.{Entry, first_among, first_known, held_of, missing_text}
 use Rattle.play_program.specs.Sources.{of_input, without_first}
@@ -13,12 +12,12 @@ use Rattle.play_program.specs.Sources.{of_input, without_first}
 -- ---- inputs
 
 pub same_inputs : (one other : Input) → is_same_input one other ≡ true → one ≡ other
-same_inputs input.Cave input.Cave same = refl
-same_inputs input.Bindings input.Bindings same = refl
-same_inputs input.Log input.Log same = refl
-same_inputs input.NewLog input.NewLog same = refl
-same_inputs input.Script input.Script same = refl
-same_inputs input.Known input.Known same = refl
+same_inputs Input.Cave Input.Cave same = refl
+same_inputs Input.Bindings Input.Bindings same = refl
+same_inputs Input.Log Input.Log same = refl
+same_inputs Input.NewLog Input.NewLog same = refl
+same_inputs Input.Script Input.Script same = refl
+same_inputs Input.Known Input.Known same = refl
 same_inputs _ _ same = absurd (false≢true same)
 
 -- ---- the files of an input
@@ -143,12 +142,12 @@ module _ (typed : List ℕ) (entries : List Entry) where
   pub held_for-first : (from : Input) (found : Entry)
       → first_among (of_input from entries) ≡ Some found
       → held_for from (held_of typed entries) ≡ found.known
-  held_for-first input.Cave found is = first_known-found [] _ found is
-  held_for-first input.Bindings found is = first_known-found [] _ found is
-  held_for-first input.Log found is = next_log-found _ found is
-  held_for-first input.NewLog found is = first_known-found [] _ found is
-  held_for-first input.Script found is = first_known-found typed _ found is
-  held_for-first input.Known found is = first_known-found [] _ found is
+  held_for-first Input.Cave found is = first_known-found [] _ found is
+  held_for-first Input.Bindings found is = first_known-found [] _ found is
+  held_for-first Input.Log found is = next_log-found _ found is
+  held_for-first Input.NewLog found is = first_known-found [] _ found is
+  held_for-first Input.Script found is = first_known-found typed _ found is
+  held_for-first Input.Known found is = first_known-found [] _ found is
 
   module _ (from : Input) where
     -- what is known of another input is as before
@@ -157,108 +156,108 @@ module _ (typed : List ℕ) (entries : List Entry) where
         ≡ first_known missing (of_input other entries)
     k missing other apart = ap (first_known missing) (of_input-other from other apart entries)
 
-    l : is_same_input from input.Log ≡ false
-        → map (λ (e : Entry). e.known) (of_input input.Log (without_first from entries))
-        ≡ map (λ (e : Entry). e.known) (of_input input.Log entries)
-    l apart = ap (map (λ (e : Entry). e.known)) (of_input-other from input.Log apart entries)
+    l : is_same_input from Input.Log ≡ false
+        → map (λ (e : Entry). e.known) (of_input Input.Log (without_first from entries))
+        ≡ map (λ (e : Entry). e.known) (of_input Input.Log entries)
+    l apart = ap (map (λ (e : Entry). e.known)) (of_input-other from Input.Log apart entries)
 
   -- so are the others once one was read
   pub IsTaken-first : (from : Input) (found : Entry)
       → first_among (of_input from entries) ≡ Some found
       → IsTaken from (held_of typed entries) (held_of typed (without_first from entries))
-  IsTaken-first input.Cave found is = record {
+  IsTaken-first Input.Cave found is = record {
     others = λ i. record {
       cave = None;
-      bindings = k input.Cave [] input.Bindings refl i;
-      logs = l input.Cave refl i;
-      new_log = k input.Cave [] input.NewLog refl i;
-      script = k input.Cave typed input.Script refl i;
-      known = k input.Cave [] input.Known refl i;
+      bindings = k Input.Cave [] Input.Bindings refl i;
+      logs = l Input.Cave refl i;
+      new_log = k Input.Cave [] Input.NewLog refl i;
+      script = k Input.Cave typed Input.Script refl i;
+      known = k Input.Cave [] Input.Known refl i;
     };
-    logs = l input.Cave refl;
+    logs = l Input.Cave refl;
   }
-  IsTaken-first input.Bindings found is = record {
+  IsTaken-first Input.Bindings found is = record {
     others = λ i. record {
-      cave = k input.Bindings [] input.Cave refl i;
+      cave = k Input.Bindings [] Input.Cave refl i;
       bindings = None;
-      logs = l input.Bindings refl i;
-      new_log = k input.Bindings [] input.NewLog refl i;
-      script = k input.Bindings typed input.Script refl i;
-      known = k input.Bindings [] input.Known refl i;
+      logs = l Input.Bindings refl i;
+      new_log = k Input.Bindings [] Input.NewLog refl i;
+      script = k Input.Bindings typed Input.Script refl i;
+      known = k Input.Bindings [] Input.Known refl i;
     };
-    logs = l input.Bindings refl;
+    logs = l Input.Bindings refl;
   }
-  IsTaken-first input.Log found is = record {
+  IsTaken-first Input.Log found is = record {
     others = λ i. record {
-      cave = k input.Log [] input.Cave refl i;
-      bindings = k input.Log [] input.Bindings refl i;
+      cave = k Input.Log [] Input.Cave refl i;
+      bindings = k Input.Log [] Input.Bindings refl i;
       logs = [];
-      new_log = k input.Log [] input.NewLog refl i;
-      script = k input.Log typed input.Script refl i;
-      known = k input.Log [] input.Known refl i;
+      new_log = k Input.Log [] Input.NewLog refl i;
+      script = k Input.Log typed Input.Script refl i;
+      known = k Input.Log [] Input.Known refl i;
     };
     logs = sym (ap (λ logs. drop 1 (map (λ (e : Entry). e.known) logs))
-        (of_input-taken input.Log entries found is).1);
+        (of_input-taken Input.Log entries found is).1);
   }
-  IsTaken-first input.NewLog found is = record {
+  IsTaken-first Input.NewLog found is = record {
     others = λ i. record {
-      cave = k input.NewLog [] input.Cave refl i;
-      bindings = k input.NewLog [] input.Bindings refl i;
-      logs = l input.NewLog refl i;
+      cave = k Input.NewLog [] Input.Cave refl i;
+      bindings = k Input.NewLog [] Input.Bindings refl i;
+      logs = l Input.NewLog refl i;
       new_log = None;
       script = None;
       known = None;
     };
-    logs = l input.NewLog refl;
+    logs = l Input.NewLog refl;
   }
-  IsTaken-first input.Script found is = record {
+  IsTaken-first Input.Script found is = record {
     others = λ i. record {
-      cave = k input.Script [] input.Cave refl i;
-      bindings = k input.Script [] input.Bindings refl i;
-      logs = l input.Script refl i;
+      cave = k Input.Script [] Input.Cave refl i;
+      bindings = k Input.Script [] Input.Bindings refl i;
+      logs = l Input.Script refl i;
       new_log = None;
       script = None;
       known = None;
     };
-    logs = l input.Script refl;
+    logs = l Input.Script refl;
   }
-  IsTaken-first input.Known found is = record {
+  IsTaken-first Input.Known found is = record {
     others = λ i. record {
-      cave = k input.Known [] input.Cave refl i;
-      bindings = k input.Known [] input.Bindings refl i;
-      logs = l input.Known refl i;
+      cave = k Input.Known [] Input.Cave refl i;
+      bindings = k Input.Known [] Input.Bindings refl i;
+      logs = l Input.Known refl i;
       new_log = None;
       script = None;
       known = None;
     };
-    logs = l input.Known refl;
+    logs = l Input.Known refl;
   }
 
   -- an input without a file
   pub Says-missing : (from : Input) (bytes : List ℕ) → first_among (of_input from entries) ≡ None
       → bytes ≡ missing_text typed from → Says (held_for from (held_of typed entries)) bytes
-  Says-missing input.Cave bytes none said =
+  Says-missing Input.Cave bytes none said =
       subst (λ l. Says (first_known [] l) bytes) (sym (emptied _ none)) said
-  Says-missing input.Bindings bytes none said =
+  Says-missing Input.Bindings bytes none said =
       subst (λ l. Says (first_known [] l) bytes) (sym (emptied _ none)) said
-  Says-missing input.Log bytes none said =
+  Says-missing Input.Log bytes none said =
       subst (λ l. Says (next_log (map (λ (e : Entry). e.known) l)) bytes) (sym (emptied _ none)) tt
-  Says-missing input.NewLog bytes none said =
+  Says-missing Input.NewLog bytes none said =
       subst (λ l. Says (first_known [] l) bytes) (sym (emptied _ none)) said
-  Says-missing input.Script bytes none said =
+  Says-missing Input.Script bytes none said =
       subst (λ l. Says (first_known typed l) bytes) (sym (emptied _ none)) said
-  Says-missing input.Known bytes none said =
+  Says-missing Input.Known bytes none said =
       subst (λ l. Says (first_known [] l) bytes) (sym (emptied _ none)) said
 
   pub IsTaken-missing : (from : Input) → first_among (of_input from entries) ≡ None
       → IsTaken from (held_of typed entries) (held_of typed entries)
-  IsTaken-missing input.Log none = record {
+  IsTaken-missing Input.Log none = record {
     others = refl;
     logs = ap (map (λ (e : Entry). e.known)) (emptied _ none)
         ∙ sym (ap (λ l. drop 1 (map (λ (e : Entry). e.known) l)) (emptied _ none));
   }
-  IsTaken-missing input.Cave none = record { others = refl; logs = refl }
-  IsTaken-missing input.Bindings none = record { others = refl; logs = refl }
-  IsTaken-missing input.NewLog none = record { others = refl; logs = refl }
-  IsTaken-missing input.Script none = record { others = refl; logs = refl }
-  IsTaken-missing input.Known none = record { others = refl; logs = refl }
+  IsTaken-missing Input.Cave none = record { others = refl; logs = refl }
+  IsTaken-missing Input.Bindings none = record { others = refl; logs = refl }
+  IsTaken-missing Input.NewLog none = record { others = refl; logs = refl }
+  IsTaken-missing Input.Script none = record { others = refl; logs = refl }
+  IsTaken-missing Input.Known none = record { others = refl; logs = refl }

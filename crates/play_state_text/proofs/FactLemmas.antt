@@ -8,9 +8,7 @@ use Rattle.world_objects.specs.Objects.{Layout}
 use Rattle.cave_world.specs.declared.dwarves.Knife.{Knife}
 use Rattle.cave_world.specs.declared.dwarves.Knife.TheVariants.{Unthrown, At, Vanished}
 use Rattle.cave_world.specs.declared.ending.Ending.{Ending}
-use Rattle.cave_world.specs.declared.ending.Ending.TheVariants as ending
 use Rattle.cave_world.specs.declared.ending.Question.{Question}
-use Rattle.cave_world.specs.declared.ending.Question.TheVariants as question
 use Rattle.play_state_text.specs.Facts.{StateFact, Number, Signed, Answer, Asked, Ended, Verb}
 use Rattle.play_state_text.specs.Facts.{Thing, Thrown, AllObjects, AllDwarves, AllHints, AllVisits}
 use Rattle.play_state_text.specs.StateText.{fact_text}
@@ -41,45 +39,45 @@ numbered_read name m n s t hm hn e =
 question_read : (p q : Option Question) (s t : List ℕ) → IsQuestionWithin p → IsQuestionWithin q
     → ends (question_text p) s ≡ ends (question_text q) t → (p ≡ q) × (s ≡ t)
 question_read None None s t hp hq e = (refl, append_cancel_left (codes "none\n") s t e)
-question_read (Some question.Welcome) (Some question.Welcome) s t hp hq e =
+question_read (Some Question.Welcome) (Some Question.Welcome) s t hp hq e =
     (refl, append_cancel_left (codes "welcome\n") s t e)
-question_read (Some question.Quit) (Some question.Quit) s t hp hq e =
+question_read (Some Question.Quit) (Some Question.Quit) s t hp hq e =
     (refl, append_cancel_left (codes "quit\n") s t e)
-question_read (Some question.ScoreQuit) (Some question.ScoreQuit) s t hp hq e =
+question_read (Some Question.ScoreQuit) (Some Question.ScoreQuit) s t hp hq e =
     (refl, append_cancel_left (codes "score, quit\n") s t e)
-question_read (Some question.Die) (Some question.Die) s t hp hq e =
+question_read (Some Question.Die) (Some Question.Die) s t hp hq e =
     (refl, append_cancel_left (codes "revive\n") s t e)
-question_read (Some (question.Hint m)) (Some (question.Hint n)) s t hp hq e =
+question_read (Some (Question.Hint m)) (Some (Question.Hint n)) s t hp hq e =
     let number = numbered_read (codes "hint ") m n s t hp hq e in
-    (λ i. Some (question.Hint (number.0 i)), number.1)
-question_read (Some (question.Take m)) (Some (question.Take n)) s t hp hq e =
+    (λ i. Some (Question.Hint (number.0 i)), number.1)
+question_read (Some (Question.Take m)) (Some (Question.Take n)) s t hp hq e =
     let number = numbered_read (codes "take hint ") m n s t hp hq e in
-    (λ i. Some (question.Take (number.0 i)), number.1)
-question_read (Some question.Oyster) (Some question.Oyster) s t hp hq e =
+    (λ i. Some (Question.Take (number.0 i)), number.1)
+question_read (Some Question.Oyster) (Some Question.Oyster) s t hp hq e =
     (refl, append_cancel_left (codes "oyster\n") s t e)
-question_read (Some question.Dragon) (Some question.Dragon) s t hp hq e =
+question_read (Some Question.Dragon) (Some Question.Dragon) s t hp hq e =
     (refl, append_cancel_left (codes "dragon\n") s t e)
-question_read None (Some question.Welcome) s t hp hq e = absurd (false≢true (differ 0 _ _ e))
+question_read None (Some Question.Welcome) s t hp hq e = absurd (false≢true (differ 0 _ _ e))
 question_read _ _ s t hp hq e = absurd (false≢true (differ 0 _ _ e))
 
 ending_read : (p q : Option Ending) (s t : List ℕ) → ends (end_words p) s ≡ ends (end_words q) t
     → (p ≡ q) × (s ≡ t)
 ending_read None None s t e = (refl, append_cancel_left (codes "no\n") s t e)
-ending_read (Some ending.Quit) (Some ending.Quit) s t e =
+ending_read (Some Ending.Quit) (Some Ending.Quit) s t e =
     (refl, append_cancel_left (codes "quit\n") s t e)
-ending_read (Some ending.Killed) (Some ending.Killed) s t e =
+ending_read (Some Ending.Killed) (Some Ending.Killed) s t e =
     (refl, append_cancel_left (codes "killed\n") s t e)
-ending_read (Some ending.Klutz) (Some ending.Klutz) s t e =
+ending_read (Some Ending.Klutz) (Some Ending.Klutz) s t e =
     (refl, append_cancel_left (codes "klutz\n") s t e)
-ending_read (Some ending.WrongWay) (Some ending.WrongWay) s t e =
+ending_read (Some Ending.WrongWay) (Some Ending.WrongWay) s t e =
     (refl, append_cancel_left (codes "wrong way\n") s t e)
-ending_read (Some ending.Success) (Some ending.Success) s t e =
+ending_read (Some Ending.Success) (Some Ending.Success) s t e =
     (refl, append_cancel_left (codes "success\n") s t e)
-ending_read (Some ending.Killed) (Some ending.Klutz) s t e =
+ending_read (Some Ending.Killed) (Some Ending.Klutz) s t e =
     absurd (false≢true (differ 1 _ _ e))
-ending_read (Some ending.Klutz) (Some ending.Killed) s t e =
+ending_read (Some Ending.Klutz) (Some Ending.Killed) s t e =
     absurd (false≢true (differ 1 _ _ e))
-ending_read None (Some ending.Quit) s t e = absurd (false≢true (differ 0 _ _ e))
+ending_read None (Some Ending.Quit) s t e = absurd (false≢true (differ 0 _ _ e))
 ending_read _ _ s t e = absurd (false≢true (differ 0 _ _ e))
 
 knife_read : (p q : Knife) (s t : List ℕ) → IsKnifeWithin p → IsKnifeWithin q

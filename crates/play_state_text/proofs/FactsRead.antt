@@ -18,13 +18,12 @@ use Rattle.play_state_text.specs.Facts.{each_kind, fact_in, kind_name}
 use Rattle.play_state_text.specs.StateText.{text_in}
 use Rattle.play_state_text.specs.Within.{AreFactsWithin}
 use Rattle.play_state_text.specs.declared.kind.FactKind.{FactKind}
-use Rattle.play_state_text.specs.declared.kind.FactKind.TheVariants as kind
 use Rattle.play_state_text.proofs.FactLemmas.{IsAfter, Same, fact_read, form_of}
 use Rattle.play_state_text.proofs.Reading.{peel}
 
 -- a kind has facts of one constructor
 alike : (kind : FactKind) (a b : State) → form_of (fact_in kind a) ≡ form_of (fact_in kind b)
-alike kind.Here a b = refl
+alike FactKind.Here a b = refl
 alike _ a b = refl
 
 -- the facts of a kind say the same
@@ -58,40 +57,40 @@ module _ (cave : CaveView) (begun : Layout) where
 
 -- what holds of all kinds holds of each
 pub each_of : (P : FactKind → Type 0) → AllByRecursion P each_kind → (kind : FactKind) → P kind
-each_of P all kind.Here = all.0
-each_of P all kind.Last = all.1.0
-each_of P all kind.Older = all.1.1.0
-each_of P all kind.Question = all.1.1.1.0
-each_of P all kind.Ended = all.1.1.1.1.0
-each_of P all kind.Lamp = all.1.1.1.1.1.0
-each_of P all kind.LampWarned = all.1.1.1.1.1.1.0
-each_of P all kind.FirstClock = all.1.1.1.1.1.1.1.0
-each_of P all kind.SecondClock = all.1.1.1.1.1.1.1.1.0
-each_of P all kind.Closing = all.1.1.1.1.1.1.1.1.1.0
-each_of P all kind.Closed = all.1.1.1.1.1.1.1.1.1.1.0
-each_of P all kind.Panic = all.1.1.1.1.1.1.1.1.1.1.1.0
-each_of P all kind.UnseenTreasures = all.1.1.1.1.1.1.1.1.1.1.1.1.0
-each_of P all kind.LostTreasures = all.1.1.1.1.1.1.1.1.1.1.1.1.1.0
-each_of P all kind.Deaths = all.1.1.1.1.1.1.1.1.1.1.1.1.1.1.0
-each_of P all kind.Objects = all.1.1.1.1.1.1.1.1.1.1.1.1.1.1.1.0
-each_of P all kind.HalfCommand = all.1.1.1.1.1.1.1.1.1.1.1.1.1.1.1.1.0
-each_of P all kind.HalfObject = all.1.1.1.1.1.1.1.1.1.1.1.1.1.1.1.1.1.0
-each_of P all kind.LastObject = all.1.1.1.1.1.1.1.1.1.1.1.1.1.1.1.1.1.1.0
-each_of P all kind.Brief = all.1.1.1.1.1.1.1.1.1.1.1.1.1.1.1.1.1.1.1.0
-each_of P all kind.Details = all.1.1.1.1.1.1.1.1.1.1.1.1.1.1.1.1.1.1.1.1.0
-each_of P all kind.Magic = all.1.1.1.1.1.1.1.1.1.1.1.1.1.1.1.1.1.1.1.1.1.0
-each_of P all kind.Anger = all.1.1.1.1.1.1.1.1.1.1.1.1.1.1.1.1.1.1.1.1.1.1.0
-each_of P all kind.Kills = all.1.1.1.1.1.1.1.1.1.1.1.1.1.1.1.1.1.1.1.1.1.1.1.0
-each_of P all kind.Dwarves = all.1.1.1.1.1.1.1.1.1.1.1.1.1.1.1.1.1.1.1.1.1.1.1.1.0
-each_of P all kind.Knife = all.1.1.1.1.1.1.1.1.1.1.1.1.1.1.1.1.1.1.1.1.1.1.1.1.1.0
-each_of P all kind.Hints = all.1.1.1.1.1.1.1.1.1.1.1.1.1.1.1.1.1.1.1.1.1.1.1.1.1.1.0
-each_of P all kind.Stream = all.1.1.1.1.1.1.1.1.1.1.1.1.1.1.1.1.1.1.1.1.1.1.1.1.1.1.1.0
-each_of P all kind.Visits = all.1.1.1.1.1.1.1.1.1.1.1.1.1.1.1.1.1.1.1.1.1.1.1.1.1.1.1.1.0
+each_of P all FactKind.Here = all.0
+each_of P all FactKind.Last = all.1.0
+each_of P all FactKind.Older = all.1.1.0
+each_of P all FactKind.Question = all.1.1.1.0
+each_of P all FactKind.Ended = all.1.1.1.1.0
+each_of P all FactKind.Lamp = all.1.1.1.1.1.0
+each_of P all FactKind.LampWarned = all.1.1.1.1.1.1.0
+each_of P all FactKind.FirstClock = all.1.1.1.1.1.1.1.0
+each_of P all FactKind.SecondClock = all.1.1.1.1.1.1.1.1.0
+each_of P all FactKind.Closing = all.1.1.1.1.1.1.1.1.1.0
+each_of P all FactKind.Closed = all.1.1.1.1.1.1.1.1.1.1.0
+each_of P all FactKind.Panic = all.1.1.1.1.1.1.1.1.1.1.1.0
+each_of P all FactKind.UnseenTreasures = all.1.1.1.1.1.1.1.1.1.1.1.1.0
+each_of P all FactKind.LostTreasures = all.1.1.1.1.1.1.1.1.1.1.1.1.1.0
+each_of P all FactKind.Deaths = all.1.1.1.1.1.1.1.1.1.1.1.1.1.1.0
+each_of P all FactKind.Objects = all.1.1.1.1.1.1.1.1.1.1.1.1.1.1.1.0
+each_of P all FactKind.HalfCommand = all.1.1.1.1.1.1.1.1.1.1.1.1.1.1.1.1.0
+each_of P all FactKind.HalfObject = all.1.1.1.1.1.1.1.1.1.1.1.1.1.1.1.1.1.0
+each_of P all FactKind.LastObject = all.1.1.1.1.1.1.1.1.1.1.1.1.1.1.1.1.1.1.0
+each_of P all FactKind.Brief = all.1.1.1.1.1.1.1.1.1.1.1.1.1.1.1.1.1.1.1.0
+each_of P all FactKind.Details = all.1.1.1.1.1.1.1.1.1.1.1.1.1.1.1.1.1.1.1.1.0
+each_of P all FactKind.Magic = all.1.1.1.1.1.1.1.1.1.1.1.1.1.1.1.1.1.1.1.1.1.0
+each_of P all FactKind.Anger = all.1.1.1.1.1.1.1.1.1.1.1.1.1.1.1.1.1.1.1.1.1.1.0
+each_of P all FactKind.Kills = all.1.1.1.1.1.1.1.1.1.1.1.1.1.1.1.1.1.1.1.1.1.1.1.0
+each_of P all FactKind.Dwarves = all.1.1.1.1.1.1.1.1.1.1.1.1.1.1.1.1.1.1.1.1.1.1.1.1.0
+each_of P all FactKind.Knife = all.1.1.1.1.1.1.1.1.1.1.1.1.1.1.1.1.1.1.1.1.1.1.1.1.1.0
+each_of P all FactKind.Hints = all.1.1.1.1.1.1.1.1.1.1.1.1.1.1.1.1.1.1.1.1.1.1.1.1.1.1.0
+each_of P all FactKind.Stream = all.1.1.1.1.1.1.1.1.1.1.1.1.1.1.1.1.1.1.1.1.1.1.1.1.1.1.1.0
+each_of P all FactKind.Visits = all.1.1.1.1.1.1.1.1.1.1.1.1.1.1.1.1.1.1.1.1.1.1.1.1.1.1.1.1.0
 
 -- what lines say of the objects isn't all: their lists are read with the places
 pub facts_are : (a b : State) → AreSameOf a b each_kind → a.objects ≡ b.objects
     → (kind : FactKind) → fact_in kind a ≡ fact_in kind b
-facts_are a b all same kind.Objects = ap AllObjects same
+facts_are a b all same FactKind.Objects = ap AllObjects same
 facts_are a b all same kind = each_of (IsSameOf a b) all kind
 
 -- ---- what a fact is made of
@@ -145,41 +144,41 @@ visits_of _ = []
 pub state_of_facts : (a b : State) → ((kind : FactKind) → fact_in kind a ≡ fact_in kind b) → a ≡ b
 state_of_facts a b same = λ i. record {
   trail = record {
-    here = number_of (same kind.Here i);
-    last = number_of (same kind.Last i);
-    older = number_of (same kind.Older i);
+    here = number_of (same FactKind.Here i);
+    last = number_of (same FactKind.Last i);
+    older = number_of (same FactKind.Older i);
   };
-  objects = objects_of (same kind.Objects i);
-  visits = visits_of (same kind.Visits i);
-  lamp = record { charge = signed_of (same kind.Lamp i); is_warned = answer_of (same kind.LampWarned i) };
+  objects = objects_of (same FactKind.Objects i);
+  visits = visits_of (same FactKind.Visits i);
+  lamp = record { charge = signed_of (same FactKind.Lamp i); is_warned = answer_of (same FactKind.LampWarned i) };
   closing = record {
-    first_clock = signed_of (same kind.FirstClock i);
-    second_clock = signed_of (same kind.SecondClock i);
-    is_closing = answer_of (same kind.Closing i);
-    is_closed = answer_of (same kind.Closed i);
-    is_panicking = answer_of (same kind.Panic i);
+    first_clock = signed_of (same FactKind.FirstClock i);
+    second_clock = signed_of (same FactKind.SecondClock i);
+    is_closing = answer_of (same FactKind.Closing i);
+    is_closed = answer_of (same FactKind.Closed i);
+    is_panicking = answer_of (same FactKind.Panic i);
   };
   tallies = record {
-    unseen = number_of (same kind.UnseenTreasures i);
-    lost = number_of (same kind.LostTreasures i);
-    deaths = number_of (same kind.Deaths i);
+    unseen = number_of (same FactKind.UnseenTreasures i);
+    lost = number_of (same FactKind.LostTreasures i);
+    deaths = number_of (same FactKind.Deaths i);
   };
   talk = record {
-    verb = verb_of (same kind.HalfCommand i);
-    object = number_of (same kind.HalfObject i);
-    last = number_of (same kind.LastObject i);
-    is_brief = answer_of (same kind.Brief i);
-    details = number_of (same kind.Details i);
-    magic = signed_of (same kind.Magic i);
+    verb = verb_of (same FactKind.HalfCommand i);
+    object = number_of (same FactKind.HalfObject i);
+    last = number_of (same FactKind.LastObject i);
+    is_brief = answer_of (same FactKind.Brief i);
+    details = number_of (same FactKind.Details i);
+    magic = signed_of (same FactKind.Magic i);
   };
   dwarves = record {
-    anger = number_of (same kind.Anger i);
-    kills = number_of (same kind.Kills i);
-    knife = knife_of (same kind.Knife i);
-    each = dwarves_of (same kind.Dwarves i);
+    anger = number_of (same FactKind.Anger i);
+    kills = number_of (same FactKind.Kills i);
+    knife = knife_of (same FactKind.Knife i);
+    each = dwarves_of (same FactKind.Dwarves i);
   };
-  hints = hints_of (same kind.Hints i);
-  question = asked_of (same kind.Question i);
-  ending = ended_of (same kind.Ended i);
-  stream = number_of (same kind.Stream i);
+  hints = hints_of (same FactKind.Hints i);
+  question = asked_of (same FactKind.Question i);
+  ending = ended_of (same FactKind.Ended i);
+  stream = number_of (same FactKind.Stream i);
 }

@@ -11,9 +11,7 @@ use Rattle.std.proofs.lemmas.List.{append_cancel_left}
 use Rattle.cave_data.specs.CaveView.{CaveView}
 use Rattle.world_objects.specs.Objects.{Layout, spot_of, anchor_of, prop_of}
 use Rattle.world_objects.specs.declared.spot.Spot.{Spot}
-use Rattle.world_objects.specs.declared.spot.Spot.TheVariants as spot
 use Rattle.world_objects.specs.declared.spot.Anchor.{Anchor}
-use Rattle.world_objects.specs.declared.spot.Anchor.TheVariants as anchor
 use Rattle.world_objects.specs.contracts.spot.SpotPartialEq.TheImpl as spot_eq
 use Rattle.world_objects.specs.contracts.spot.AnchorPartialEq.TheImpl as anchor_eq
 use Rattle.play_state_text.specs.Things.{text_up_to, spot_text, anchor_text}
@@ -29,14 +27,14 @@ use Rattle.play_state_text.proofs.ListedLemmas.{listed, not_zero}
 
 spot_read : (p q : Spot) (s t : List ℕ) → IsSpotWithin p → IsSpotWithin q → GoesOn s → GoesOn t
     → spot_text p ++ s ≡ spot_text q ++ t → (p ≡ q) × (s ≡ t)
-spot_read spot.Away spot.Away s t hp hq g h e = (refl, append_cancel_left (codes " away") s t e)
-spot_read spot.InHands spot.InHands s t hp hq g h e =
+spot_read Spot.Away Spot.Away s t hp hq g h e = (refl, append_cancel_left (codes " away") s t e)
+spot_read Spot.InHands Spot.InHands s t hp hq g h e =
     (refl, append_cancel_left (codes " carried") s t e)
-spot_read (spot.At m) (spot.At n) s t hp hq g h e =
+spot_read (Spot.At m) (Spot.At n) s t hp hq g h e =
     let number = number_read m n s t hp hq g h (after_name (codes " at ") _ _ s t e) in
-    (λ i. spot.At (number.0 i), number.1)
-spot_read spot.Away (spot.At n) s t hp hq g h e = absurd (false≢true (differ 2 _ _ e))
-spot_read (spot.At m) spot.Away s t hp hq g h e = absurd (false≢true (differ 2 _ _ e))
+    (λ i. Spot.At (number.0 i), number.1)
+spot_read Spot.Away (Spot.At n) s t hp hq g h e = absurd (false≢true (differ 2 _ _ e))
+spot_read (Spot.At m) Spot.Away s t hp hq g h e = absurd (false≢true (differ 2 _ _ e))
 spot_read _ _ s t hp hq g h e = absurd (false≢true (differ 1 _ _ e))
 
 -- what comes after an anchor
@@ -45,21 +43,21 @@ prop_text s = codes ", prop " ++ s
 
 anchor_read : (p q : Anchor) (s t : List ℕ) → IsAnchorWithin p → IsAnchorWithin q
     → anchor_text p ++ prop_text s ≡ anchor_text q ++ prop_text t → (p ≡ q) × (s ≡ t)
-anchor_read anchor.Loose anchor.Loose s t hp hq e =
+anchor_read Anchor.Loose Anchor.Loose s t hp hq e =
     (refl, append_cancel_left (codes ", prop ") s t e)
-anchor_read anchor.Fixed anchor.Fixed s t hp hq e =
+anchor_read Anchor.Fixed Anchor.Fixed s t hp hq e =
     (refl, append_cancel_left (codes ", fixed, prop ") s t e)
-anchor_read (anchor.At m) (anchor.At n) s t hp hq e =
+anchor_read (Anchor.At m) (Anchor.At n) s t hp hq e =
     let number =
     number_read m n (prop_text s) (prop_text t) hp hq refl refl
     (after_name (codes ", also at ") _ _ (prop_text s) (prop_text t) e) in
-    (λ i. anchor.At (number.0 i), append_cancel_left (codes ", prop ") s t number.1)
+    (λ i. Anchor.At (number.0 i), append_cancel_left (codes ", prop ") s t number.1)
 anchor_read _ _ s t hp hq e = absurd (false≢true (differ 2 _ _ e))
 
 anchor_goes_on : (p : Anchor) (s : List ℕ) → GoesOn (anchor_text p ++ prop_text s)
-anchor_goes_on anchor.Loose s = refl
-anchor_goes_on anchor.Fixed s = refl
-anchor_goes_on (anchor.At place) s = refl
+anchor_goes_on Anchor.Loose s = refl
+anchor_goes_on Anchor.Fixed s = refl
+anchor_goes_on (Anchor.At place) s = refl
 
 abbrev pub AreSameThings : Layout → Layout → ℕ → Type 0
 AreSameThings o p x =
@@ -101,17 +99,17 @@ thing_goes_on cave o x u =
     subst GoesOn (sym whole) (object_beside cave x (rest ++ u) refl)
 
 spot_decides : (a b : Spot) → Decides (spot_eq.eq-value.it a b) (a ≡ b)
-spot_decides spot.Away spot.Away = (λ _. refl, λ _. refl)
-spot_decides spot.InHands spot.InHands = (λ _. refl, λ _. refl)
-spot_decides (spot.At x) (spot.At y) =
-    (λ e i. spot.At ((unsigned_Decides x y).0 e i), λ e. (unsigned_Decides x y).1 cc)
+spot_decides Spot.Away Spot.Away = (λ _. refl, λ _. refl)
+spot_decides Spot.InHands Spot.InHands = (λ _. refl, λ _. refl)
+spot_decides (Spot.At x) (Spot.At y) =
+    (λ e i. Spot.At ((unsigned_Decides x y).0 e i), λ e. (unsigned_Decides x y).1 cc)
 spot_decides _ _ = (λ e. absurd (false≢true e), λ e. cc)
 
 anchor_decides : (a b : Anchor) → Decides (anchor_eq.eq-value.it a b) (a ≡ b)
-anchor_decides anchor.Loose anchor.Loose = (λ _. refl, λ _. refl)
-anchor_decides anchor.Fixed anchor.Fixed = (λ _. refl, λ _. refl)
-anchor_decides (anchor.At x) (anchor.At y) =
-    (λ e i. anchor.At ((unsigned_Decides x y).0 e i), λ e. (unsigned_Decides x y).1 cc)
+anchor_decides Anchor.Loose Anchor.Loose = (λ _. refl, λ _. refl)
+anchor_decides Anchor.Fixed Anchor.Fixed = (λ _. refl, λ _. refl)
+anchor_decides (Anchor.At x) (Anchor.At y) =
+    (λ e i. Anchor.At ((unsigned_Decides x y).0 e i), λ e. (unsigned_Decides x y).1 cc)
 anchor_decides _ _ = (λ e. absurd (false≢true e), λ e. cc)
 
 as_begun : (begun o : Layout) (x : ℕ) → is_as_in begun o x ≡ true → AreSameThings o begun x
@@ -150,12 +148,12 @@ objects_read cave begun o p s t ho hp past other e =
 -- ---- the arrays of objects
 
 spot_at : (o p : Layout) (n : ℕ) → n == 0 ≡ false → spot_of o n ≡ spot_of p n
-    → slice_index_or o.first (n - 1) spot.Away ≡ slice_index_or p.first (n - 1) spot.Away
+    → slice_index_or o.first (n - 1) Spot.Away ≡ slice_index_or p.first (n - 1) Spot.Away
 unfolding spot_of
 spot_at o p n some e = rw some at e
 
 anchor_at : (o p : Layout) (n : ℕ) → n == 0 ≡ false → anchor_of o n ≡ anchor_of p n
-    → slice_index_or o.second (n - 1) anchor.Loose ≡ slice_index_or p.second (n - 1) anchor.Loose
+    → slice_index_or o.second (n - 1) Anchor.Loose ≡ slice_index_or p.second (n - 1) Anchor.Loose
 unfolding anchor_of
 anchor_at o p n some e = rw some at e
 
@@ -168,10 +166,10 @@ pub things_same : (o p : Layout) → AreObjectsWithin o → AreObjectsWithin p
     → ((x : ℕ) → IsUpTo 100 x → AreSameThings o p x)
     → (o.first ≡ p.first) × ((o.second ≡ p.second) × (o.props ≡ p.props))
 things_same o p ho hp each = (
-  listed spot.Away o.first p.first 100 ho.spots hp.spots
+  listed Spot.Away o.first p.first 100 ho.spots hp.spots
       (λ n up. spot_at o p n (not_zero n up.0) (each n up).0),
   (
-    listed anchor.Loose o.second p.second 100 ho.anchors hp.anchors
+    listed Anchor.Loose o.second p.second 100 ho.anchors hp.anchors
         (λ n up. anchor_at o p n (not_zero n up.0) (each n up).1.0),
     listed (pos 0) o.props p.props 100 ho.props hp.props
         (λ n up. prop_at o p n (not_zero n up.0) (each n up).1.1),

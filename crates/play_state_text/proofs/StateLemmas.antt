@@ -15,7 +15,6 @@ use Rattle.play_state_text.specs.StateText.{AreToldApart, state_text, text_in}
 use Rattle.play_state_text.specs.Within.{AreFactsWithin, AreObjectsWithin, IsUpTo, IsWithin}
 use Rattle.play_state_text.specs.Words.{named_line, verb_line}
 use Rattle.play_state_text.specs.declared.kind.FactKind.{FactKind}
-use Rattle.play_state_text.specs.declared.kind.FactKind.TheVariants as kind
 use Rattle.play_state_text.proofs.EntryLemmas.{IsPast}
 use Rattle.play_state_text.proofs.FactsRead.{AreParted, AreSameOf, IsSameOf, each_of, facts_are, facts_read}
 use Rattle.play_state_text.proofs.FactsRead.{state_of_facts}
@@ -102,8 +101,8 @@ told_apart cave begun a b ha hb turns others score other ht ho hs hq e =
     (first_of (IsWithin a) kinds_before_places kinds_after_places ha)
     (first_of (IsWithin b) kinds_before_places kinds_after_places hb)
     (before_parted cave begun a _) (before_parted cave begun b _) scored.1 in
-    let here = each_of (IsWithin a) ha kind.Objects in
-    let there = each_of (IsWithin b) hb kind.Objects in
+    let here = each_of (IsWithin a) ha FactKind.Objects in
+    let there = each_of (IsWithin b) hb FactKind.Objects in
     let places =
     places_read cave begun a.objects b.objects (text a) (text b) here there
     (places_past cave begun a) (places_past cave begun b) first.1 in
@@ -116,5 +115,5 @@ told_apart cave begun a b ha hb turns others score other ht ho hs hq e =
     let all : AreSameOf a b each_kind =
     both_of (IsSameOf a b) kinds_before_places kinds_after_places first.0 later.0 in
     let objects =
-    objects_same a.objects b.objects here there (each_of (IsSameOf a b) all kind.Objects) places.0 in
+    objects_same a.objects b.objects here there (each_of (IsSameOf a b) all FactKind.Objects) places.0 in
     (taken.0, state_of_facts a b (facts_are a b all objects))

@@ -19,7 +19,6 @@ use Rattle.cave_world.specs.declared.ending.Question.{Question}
 use Rattle.cave_world.specs.declared.hints.Hints.{Hints}
 use Rattle.cave_world.specs.declared.state.State.{State}
 use Rattle.play_state_text.specs.declared.kind.FactKind.{FactKind}
-use Rattle.play_state_text.specs.declared.kind.FactKind.TheVariants as kind
 
 -- what a fact is
 pub data StateFact : Type 0 where
@@ -39,48 +38,48 @@ pub data StateFact : Type 0 where
 -- ---- the table, in the order of the text of a state: what a kind is called, and what a state has
 
 abbrev pub fact : FactKind → List ℕ × (State → StateFact)
-fact kind.Here = (codes "here", λ s. Number s.trail.here)
-fact kind.Last = (codes "last", λ s. Number s.trail.last)
-fact kind.Older = (codes "older", λ s. Number s.trail.older)
-fact kind.Question = (codes "question", λ s. Asked s.question)
-fact kind.Ended = (codes "ended", λ s. Ended s.ending)
-fact kind.Lamp = (codes "lamp", λ s. Signed s.lamp.charge)
-fact kind.LampWarned = (codes "lamp warned", λ s. Answer s.lamp.is_warned)
-fact kind.FirstClock = (codes "first clock", λ s. Signed s.closing.first_clock)
-fact kind.SecondClock = (codes "second clock", λ s. Signed s.closing.second_clock)
-fact kind.Closing = (codes "closing", λ s. Answer s.closing.is_closing)
-fact kind.Closed = (codes "closed", λ s. Answer s.closing.is_closed)
-fact kind.Panic = (codes "panic", λ s. Answer s.closing.is_panicking)
-fact kind.UnseenTreasures = (codes "unseen treasures", λ s. Number s.tallies.unseen)
-fact kind.LostTreasures = (codes "lost treasures", λ s. Number s.tallies.lost)
-fact kind.Deaths = (codes "deaths", λ s. Number s.tallies.deaths)
-fact kind.Objects = (codes "objects", λ s. AllObjects s.objects)
-fact kind.HalfCommand = (codes "half command", λ s. Verb s.talk.verb)
-fact kind.HalfObject = (codes "half object", λ s. Thing s.talk.object)
-fact kind.LastObject = (codes "last object", λ s. Thing s.talk.last)
-fact kind.Brief = (codes "brief", λ s. Answer s.talk.is_brief)
-fact kind.Details = (codes "details", λ s. Number s.talk.details)
-fact kind.Magic = (codes "magic", λ s. Signed s.talk.magic)
-fact kind.Anger = (codes "anger", λ s. Number s.dwarves.anger)
-fact kind.Kills = (codes "kills", λ s. Number s.dwarves.kills)
-fact kind.Dwarves = (codes "dwarves", λ s. AllDwarves s.dwarves.each)
-fact kind.Knife = (codes "knife", λ s. Thrown s.dwarves.knife)
-fact kind.Hints = (codes "hints", λ s. AllHints s.hints)
-fact kind.Stream = (codes "stream", λ s. Number s.stream)
-fact kind.Visits = (codes "visits", λ s. AllVisits s.visits)
+fact FactKind.Here = (codes "here", λ s. Number s.trail.here)
+fact FactKind.Last = (codes "last", λ s. Number s.trail.last)
+fact FactKind.Older = (codes "older", λ s. Number s.trail.older)
+fact FactKind.Question = (codes "question", λ s. Asked s.question)
+fact FactKind.Ended = (codes "ended", λ s. Ended s.ending)
+fact FactKind.Lamp = (codes "lamp", λ s. Signed s.lamp.charge)
+fact FactKind.LampWarned = (codes "lamp warned", λ s. Answer s.lamp.is_warned)
+fact FactKind.FirstClock = (codes "first clock", λ s. Signed s.closing.first_clock)
+fact FactKind.SecondClock = (codes "second clock", λ s. Signed s.closing.second_clock)
+fact FactKind.Closing = (codes "closing", λ s. Answer s.closing.is_closing)
+fact FactKind.Closed = (codes "closed", λ s. Answer s.closing.is_closed)
+fact FactKind.Panic = (codes "panic", λ s. Answer s.closing.is_panicking)
+fact FactKind.UnseenTreasures = (codes "unseen treasures", λ s. Number s.tallies.unseen)
+fact FactKind.LostTreasures = (codes "lost treasures", λ s. Number s.tallies.lost)
+fact FactKind.Deaths = (codes "deaths", λ s. Number s.tallies.deaths)
+fact FactKind.Objects = (codes "objects", λ s. AllObjects s.objects)
+fact FactKind.HalfCommand = (codes "half command", λ s. Verb s.talk.verb)
+fact FactKind.HalfObject = (codes "half object", λ s. Thing s.talk.object)
+fact FactKind.LastObject = (codes "last object", λ s. Thing s.talk.last)
+fact FactKind.Brief = (codes "brief", λ s. Answer s.talk.is_brief)
+fact FactKind.Details = (codes "details", λ s. Number s.talk.details)
+fact FactKind.Magic = (codes "magic", λ s. Signed s.talk.magic)
+fact FactKind.Anger = (codes "anger", λ s. Number s.dwarves.anger)
+fact FactKind.Kills = (codes "kills", λ s. Number s.dwarves.kills)
+fact FactKind.Dwarves = (codes "dwarves", λ s. AllDwarves s.dwarves.each)
+fact FactKind.Knife = (codes "knife", λ s. Thrown s.dwarves.knife)
+fact FactKind.Hints = (codes "hints", λ s. AllHints s.hints)
+fact FactKind.Stream = (codes "stream", λ s. Number s.stream)
+fact FactKind.Visits = (codes "visits", λ s. AllVisits s.visits)
 
 abbrev pub kinds_before_places : List FactKind
 kinds_before_places =
-    kind.Here ∷ kind.Last ∷ kind.Older ∷ kind.Question ∷ kind.Ended ∷ kind.Lamp
-    ∷ kind.LampWarned ∷ kind.FirstClock ∷ kind.SecondClock ∷ kind.Closing ∷ kind.Closed
-    ∷ kind.Panic ∷ kind.UnseenTreasures ∷ kind.LostTreasures ∷ kind.Deaths ∷ kind.Objects
-    ∷ kind.HalfCommand ∷ kind.HalfObject ∷ kind.LastObject ∷ kind.Brief ∷ kind.Details
-    ∷ kind.Magic ∷ []
+    FactKind.Here ∷ FactKind.Last ∷ FactKind.Older ∷ FactKind.Question ∷ FactKind.Ended ∷ FactKind.Lamp
+    ∷ FactKind.LampWarned ∷ FactKind.FirstClock ∷ FactKind.SecondClock ∷ FactKind.Closing ∷ FactKind.Closed
+    ∷ FactKind.Panic ∷ FactKind.UnseenTreasures ∷ FactKind.LostTreasures ∷ FactKind.Deaths ∷ FactKind.Objects
+    ∷ FactKind.HalfCommand ∷ FactKind.HalfObject ∷ FactKind.LastObject ∷ FactKind.Brief ∷ FactKind.Details
+    ∷ FactKind.Magic ∷ []
 
 abbrev pub kinds_after_places : List FactKind
 kinds_after_places =
-    kind.Anger ∷ kind.Kills ∷ kind.Dwarves ∷ kind.Knife ∷ kind.Hints ∷ kind.Stream
-    ∷ kind.Visits ∷ []
+    FactKind.Anger ∷ FactKind.Kills ∷ FactKind.Dwarves ∷ FactKind.Knife ∷ FactKind.Hints ∷ FactKind.Stream
+    ∷ FactKind.Visits ∷ []
 
 abbrev pub each_kind : List FactKind
 each_kind = kinds_before_places ++ kinds_after_places

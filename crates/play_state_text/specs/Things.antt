@@ -10,9 +10,7 @@ use Rattle.world_objects.specs.Lists.{halves_at}
 use Rattle.world_objects.specs.declared.object.Half.{Half}
 use Rattle.world_objects.specs.declared.object.Half.TheVariants.{First, Second}
 use Rattle.world_objects.specs.declared.spot.Spot.{Spot}
-use Rattle.world_objects.specs.declared.spot.Spot.TheVariants as spot
 use Rattle.world_objects.specs.declared.spot.Anchor.{Anchor}
-use Rattle.world_objects.specs.declared.spot.Anchor.TheVariants as anchor
 use Rattle.world_objects.specs.contracts.object.HalfPartialEq.TheImpl as half_eq
 use Rattle.world_objects.specs.contracts.spot.SpotPartialEq.TheImpl as spot_eq
 use Rattle.world_objects.specs.contracts.spot.AnchorPartialEq.TheImpl as anchor_eq
@@ -38,14 +36,14 @@ text_up_to text (suc last) = text_up_to text last ++ text (suc last)
 -- ---- objects
 
 abbrev pub spot_text : Spot → List ℕ
-spot_text spot.Away = codes " away"
-spot_text spot.InHands = codes " carried"
-spot_text (spot.At place) = codes " at " ++ decimal place
+spot_text Spot.Away = codes " away"
+spot_text Spot.InHands = codes " carried"
+spot_text (Spot.At place) = codes " at " ++ decimal place
 
 abbrev pub anchor_text : Anchor → List ℕ
-anchor_text anchor.Loose = []
-anchor_text anchor.Fixed = codes ", fixed"
-anchor_text (anchor.At place) = codes ", also at " ++ decimal place
+anchor_text Anchor.Loose = []
+anchor_text Anchor.Fixed = codes ", fixed"
+anchor_text (Anchor.At place) = codes ", also at " ++ decimal place
 
 -- an object is as it is in another layout
 abbrev pub is_as_in : Layout → Layout → ℕ → Bool

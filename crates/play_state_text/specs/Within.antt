@@ -5,16 +5,13 @@ use Rattle.world_objects.specs.Objects.{Layout, spot_of, anchor_of, prop_of}
 use Rattle.world_objects.specs.Lists.{AreLists}
 use Rattle.world_objects.specs.Links.{AreEntriesWithin}
 use Rattle.world_objects.specs.declared.spot.Spot.{Spot}
-use Rattle.world_objects.specs.declared.spot.Spot.TheVariants as spot
 use Rattle.world_objects.specs.declared.spot.Anchor.{Anchor}
-use Rattle.world_objects.specs.declared.spot.Anchor.TheVariants as anchor
 use Rattle.cave_world.specs.Limits.{dwarf_count}
 use Rattle.cave_world.specs.State.{no_dwarf}
 use Rattle.cave_world.specs.declared.dwarves.Dwarf.{Dwarf}
 use Rattle.cave_world.specs.declared.dwarves.Knife.{Knife}
 use Rattle.cave_world.specs.declared.dwarves.Knife.TheVariants.{At}
 use Rattle.cave_world.specs.declared.ending.Question.{Question}
-use Rattle.cave_world.specs.declared.ending.Question.TheVariants as question
 use Rattle.cave_world.specs.declared.hints.Hints.{Hints}
 use Rattle.cave_world.specs.declared.state.State.{State}
 use Rattle.play_state_text.specs.Facts.{StateFact, Number, Signed, Answer, Asked, Ended, Verb}
@@ -37,8 +34,8 @@ abbrev pub IsUpTo : ℕ → ℕ → Type 0
 IsUpTo last n = (1 ≤ n) × (n ≤ last)
 
 abbrev pub IsQuestionWithin : Option Question → Type 0
-IsQuestionWithin (Some (question.Hint number)) = IsWide number
-IsQuestionWithin (Some (question.Take number)) = IsWide number
+IsQuestionWithin (Some (Question.Hint number)) = IsWide number
+IsQuestionWithin (Some (Question.Take number)) = IsWide number
 IsQuestionWithin _ = ⊤
 
 abbrev pub IsVerbWithin : Option ℕ → Type 0
@@ -53,11 +50,11 @@ abbrev pub IsDwarfWithin : Dwarf → Type 0
 IsDwarfWithin dwarf = IsWide dwarf.place × IsWide dwarf.last
 
 abbrev pub IsSpotWithin : Spot → Type 0
-IsSpotWithin (spot.At place) = IsWide place
+IsSpotWithin (Spot.At place) = IsWide place
 IsSpotWithin _ = ⊤
 
 abbrev pub IsAnchorWithin : Anchor → Type 0
-IsAnchorWithin (anchor.At place) = IsWide place
+IsAnchorWithin (Anchor.At place) = IsWide place
 IsAnchorWithin _ = ⊤
 
 abbrev pub IsThingWithin : Layout → ℕ → Type 0

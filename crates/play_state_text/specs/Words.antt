@@ -7,9 +7,7 @@ use Rattle.cave_data.specs.CaveView.{CaveView, first_word}
 use Rattle.cave_world.specs.declared.dwarves.Knife.{Knife}
 use Rattle.cave_world.specs.declared.dwarves.Knife.TheVariants.{Unthrown, At, Vanished}
 use Rattle.cave_world.specs.declared.ending.Ending.{Ending}
-use Rattle.cave_world.specs.declared.ending.Ending.TheVariants as ending
 use Rattle.cave_world.specs.declared.ending.Question.{Question}
-use Rattle.cave_world.specs.declared.ending.Question.TheVariants as question
 
 -- a line: a name, a blank, and words
 unfoldable pub named_line : List ℕ → List ℕ → List ℕ
@@ -20,14 +18,14 @@ yes_or_no true = codes "yes"
 yes_or_no false = codes "no"
 
 abbrev pub question_word : Question → List ℕ
-question_word question.Welcome = codes "welcome"
-question_word question.Quit = codes "quit"
-question_word question.ScoreQuit = codes "score, quit"
-question_word question.Die = codes "revive"
-question_word (question.Hint number) = codes "hint " ++ decimal number
-question_word (question.Take number) = codes "take hint " ++ decimal number
-question_word question.Oyster = codes "oyster"
-question_word question.Dragon = codes "dragon"
+question_word Question.Welcome = codes "welcome"
+question_word Question.Quit = codes "quit"
+question_word Question.ScoreQuit = codes "score, quit"
+question_word Question.Die = codes "revive"
+question_word (Question.Hint number) = codes "hint " ++ decimal number
+question_word (Question.Take number) = codes "take hint " ++ decimal number
+question_word Question.Oyster = codes "oyster"
+question_word Question.Dragon = codes "dragon"
 
 -- the question that is open
 abbrev pub question_text : Option Question → List ℕ
@@ -35,11 +33,11 @@ question_text None = codes "none"
 question_text (Some question) = question_word question
 
 abbrev pub ending_word : Ending → List ℕ
-ending_word ending.Quit = codes "quit"
-ending_word ending.Killed = codes "killed"
-ending_word ending.Klutz = codes "klutz"
-ending_word ending.WrongWay = codes "wrong way"
-ending_word ending.Success = codes "success"
+ending_word Ending.Quit = codes "quit"
+ending_word Ending.Killed = codes "killed"
+ending_word Ending.Klutz = codes "klutz"
+ending_word Ending.WrongWay = codes "wrong way"
+ending_word Ending.Success = codes "success"
 
 -- how the game has ended
 abbrev pub end_words : Option Ending → List ℕ

@@ -3,7 +3,6 @@ use Rattle.std.specs.Prelude.{ℕ, zero, suc, ◌==◌, if◌then◌else◌, Lis
 use Rattle.cave_words.specs.Stream.{next, STREAM_SIZE}
 use Rattle.base_lines.specs.LogLine.{log_line}
 use Rattle.base_lines.specs.declared.log_line.LogLine.{LogLine}
-use Rattle.base_lines.specs.declared.log_line.LogLine.TheVariants as kind
 
 -- the fewest draws that lead from one number of the stream to another, if this many are enough
 unfoldable pub draws_within : ℕ → ℕ → ℕ → ℕ
@@ -17,10 +16,10 @@ draws_between from to = draws_within STREAM_SIZE from to
 
 -- a seed line begins the stream again, and draws nothing
 abbrev pub draws_by : LogLine → ℕ → ℕ → ℕ
-draws_by (kind.Seed seed) from to = 0
-draws_by kind.Comment from to = draws_between from to
-draws_by kind.Blank from to = draws_between from to
-draws_by kind.Input from to = draws_between from to
+draws_by (LogLine.Seed seed) from to = 0
+draws_by LogLine.Comment from to = draws_between from to
+draws_by LogLine.Blank from to = draws_between from to
+draws_by LogLine.Input from to = draws_between from to
 
 abbrev pub draws_at : List ℕ → ℕ → ℕ → ℕ
 draws_at line from to = draws_by (log_line line) from to

@@ -8,25 +8,22 @@ use Rattle.base_lines.specs.Numbers.{LAST_HINT}
 use Rattle.data_rows.specs.declared.place_role.PlaceRole.TheVariants as landmark
 use Rattle.cave_world.specs.State.{is_hint_taken}
 use Rattle.cave_world.specs.declared.ending.Ending.{Ending}
-use Rattle.cave_world.specs.declared.ending.Ending.TheVariants as ending
 use Rattle.cave_world.specs.declared.ending.Question.{Question}
-use Rattle.cave_world.specs.declared.ending.Question.TheVariants as question
 use Rattle.cave_world.specs.declared.state.State.{State}
 use Rattle.world_objects.specs.Objects.{is_first_at}
 use Rattle.turn_scene.specs.Places.{place_named}
 use Rattle.turn_scene.specs.Reach.{is_dwarf_here}
 use Rattle.turn_scene.specs.Treasures.{is_known, treasures}
 use Rattle.play_tables.specs.declared.events.Event.{Event}
-use Rattle.play_tables.specs.declared.events.Event.TheVariants as event
 
 -- ---- what each event is
 
 abbrev pub asks_revival : Option Question → Bool
-asks_revival (Some question.Die) = true
+asks_revival (Some Question.Die) = true
 asks_revival _ = false
 
 abbrev pub is_ended_killed : Option Ending → Bool
-is_ended_killed (Some ending.Killed) = true
+is_ended_killed (Some Ending.Killed) = true
 is_ended_killed _ = false
 
 -- the player is asked whether to come back from death, or the game has ended by a death
@@ -66,29 +63,29 @@ is_brought_home cave s t x = is_known cave x && (is_safe cave x t && not (is_saf
 -- ---- the table
 
 abbrev pub event_happens : CaveView → State → State → Event → Bool
-event_happens cave s t event.Died = is_dead t && not (is_dead s)
-event_happens cave s t event.Revived = is_dead s && not (is_dead t)
-event_happens cave s t event.Hint = list_any (is_hint_new s t) (range_with_len 1 LAST_HINT)
-event_happens cave s t event.Dwarf =
+event_happens cave s t Event.Died = is_dead t && not (is_dead s)
+event_happens cave s t Event.Revived = is_dead s && not (is_dead t)
+event_happens cave s t Event.Hint = list_any (is_hint_new s t) (range_with_len 1 LAST_HINT)
+event_happens cave s t Event.Dwarf =
     are_dwarves_woken s t || (is_dwarf_new s t || is_dwarf_killed s t)
-event_happens cave s t event.Pirate = is_hoard_richer (place_named cave landmark.Chest) s t
-event_happens cave s t event.Closing = t.closing.is_closing && not s.closing.is_closing
-event_happens cave s t event.Closed = t.closing.is_closed && not s.closing.is_closed
-event_happens cave s t event.TreasureFound = list_any (is_treasure_found cave s t) treasures
-event_happens cave s t event.TreasureHome = list_any (is_brought_home cave s t) treasures
+event_happens cave s t Event.Pirate = is_hoard_richer (place_named cave landmark.Chest) s t
+event_happens cave s t Event.Closing = t.closing.is_closing && not s.closing.is_closing
+event_happens cave s t Event.Closed = t.closing.is_closed && not s.closing.is_closed
+event_happens cave s t Event.TreasureFound = list_any (is_treasure_found cave s t) treasures
+event_happens cave s t Event.TreasureHome = list_any (is_brought_home cave s t) treasures
 
 abbrev pub event_name : Event → List ℕ
-event_name event.Died = codes "died"
-event_name event.Revived = codes "revived"
-event_name event.Hint = codes "hint"
-event_name event.Dwarf = codes "dwarf"
-event_name event.Pirate = codes "pirate"
-event_name event.Closing = codes "closing"
-event_name event.Closed = codes "closed"
-event_name event.TreasureFound = codes "treasure found"
-event_name event.TreasureHome = codes "treasure home"
+event_name Event.Died = codes "died"
+event_name Event.Revived = codes "revived"
+event_name Event.Hint = codes "hint"
+event_name Event.Dwarf = codes "dwarf"
+event_name Event.Pirate = codes "pirate"
+event_name Event.Closing = codes "closing"
+event_name Event.Closed = codes "closed"
+event_name Event.TreasureFound = codes "treasure found"
+event_name Event.TreasureHome = codes "treasure home"
 
 abbrev pub each_event : List Event
 each_event =
-    event.Died ∷ event.Revived ∷ event.Hint ∷ event.Dwarf ∷ event.Pirate ∷ event.Closing
-    ∷ event.Closed ∷ event.TreasureFound ∷ event.TreasureHome ∷ []
+    Event.Died ∷ Event.Revived ∷ Event.Hint ∷ Event.Dwarf ∷ Event.Pirate ∷ Event.Closing
+    ∷ Event.Closed ∷ Event.TreasureFound ∷ Event.TreasureHome ∷ []

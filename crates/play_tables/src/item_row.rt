@@ -92,7 +92,8 @@ pub fn put_item_columns(text: &mut Text, line: usize, edits: &[Edit], inverse: &
     text.put(b"\t");
 }
 
-fn put_met_column(text: &mut Text, met: Option<u32>)
+/// Writes the place at which a replay met the old play, if it did.
+pub fn put_met_column(text: &mut Text, met: Option<u32>)
     ensures { Tells (met_column met) text.old text.new }
 {
     match met {

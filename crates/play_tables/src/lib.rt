@@ -14,6 +14,7 @@ pub mod score_rows;
 pub mod score_table;
 
 pub use item_row::{
-    push_item_head_row, put_item_columns, put_refused_row, put_replay_columns, put_state_columns,
+    push_item_head_row, put_item_columns, put_met_column, put_refused_row, put_replay_columns,
+    put_state_columns,
 };
 pub use score_table::push_score_table;

@@ -9,9 +9,7 @@ use Rattle.world_objects.specs.Objects.{Layout, anchor_of, spot_of}
 use Rattle.world_objects.specs.contracts.spot.AnchorPartialEq.TheImpl as anchor_eq
 use Rattle.world_objects.specs.contracts.spot.SpotPartialEq.TheImpl as spot_eq
 use Rattle.world_objects.specs.declared.spot.Anchor.{Anchor}
-use Rattle.world_objects.specs.declared.spot.Anchor.TheVariants as anchor
 use Rattle.world_objects.specs.declared.spot.Spot.{Spot}
-use Rattle.world_objects.specs.declared.spot.Spot.TheVariants as spot
 use Rattle.play_walk.specs.Json.{Member, json_list, json_object, string_or_null}
 
 -- an object by its number, and by the first word that the cave has for it
@@ -21,15 +19,15 @@ name_member cave x = (codes "name", string_or_null (first_word cave.words (OBJEC
 -- where the first half of an object is, by the number of the place: 0 is nowhere, and -1 in the
 -- hands
 abbrev pub spot_number : Spot → List ℕ
-spot_number spot.Away = codes "0"
-spot_number spot.InHands = codes "-1"
-spot_number (spot.At place) = decimal place
+spot_number Spot.Away = codes "0"
+spot_number Spot.InHands = codes "-1"
+spot_number (Spot.At place) = decimal place
 
 -- where its second half is: 0 if it has none, and -1 if nothing can move it
 abbrev pub anchor_number : Anchor → List ℕ
-anchor_number anchor.Loose = codes "0"
-anchor_number anchor.Fixed = codes "-1"
-anchor_number (anchor.At place) = decimal place
+anchor_number Anchor.Loose = codes "0"
+anchor_number Anchor.Fixed = codes "-1"
+anchor_number (Anchor.At place) = decimal place
 
 -- where both are in a layout, if there is one
 abbrev pub half_members : Option Layout → ℕ → List Member

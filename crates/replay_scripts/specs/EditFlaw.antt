@@ -13,26 +13,25 @@ use Rattle.replay_scripts.specs.declared.edit_flaw.EditFlaw.TheVariants.{TwoBlan
 use Rattle.replay_scripts.specs.declared.edit_flaw.EditFlaw.TheVariants.{LongNumber, NoDigit, Guard}
 use Rattle.replay_scripts.specs.declared.edit_flaw.EditFlaw.TheVariants.{MoreText, NoBlank}
 use Rattle.replay_scripts.specs.declared.edit_flaw.ScriptWord.{ScriptWord}
-use Rattle.replay_scripts.specs.declared.edit_flaw.ScriptWord.TheVariants as word
 
 abbrev pub script_word_text : ScriptWord → List ℕ
-script_word_text word.Insert = codes "insert"
-script_word_text word.Delete = codes "delete"
-script_word_text word.Replace = codes "replace"
-script_word_text word.Seed = codes "seed"
-script_word_text word.Begin = codes "begin"
-script_word_text word.End = codes "end"
-script_word_text word.Expect = codes "expect"
+script_word_text ScriptWord.Insert = codes "insert"
+script_word_text ScriptWord.Delete = codes "delete"
+script_word_text ScriptWord.Replace = codes "replace"
+script_word_text ScriptWord.Seed = codes "seed"
+script_word_text ScriptWord.Begin = codes "begin"
+script_word_text ScriptWord.End = codes "end"
+script_word_text ScriptWord.Expect = codes "expect"
 
 abbrev pub script_word_named : List ℕ → Option ScriptWord
 script_word_named text =
-    if bytes_eq text (codes "insert") then Some word.Insert
-    else (if bytes_eq text (codes "delete") then Some word.Delete
-    else (if bytes_eq text (codes "replace") then Some word.Replace
-    else (if bytes_eq text (codes "seed") then Some word.Seed
-    else (if bytes_eq text (codes "begin") then Some word.Begin
-    else (if bytes_eq text (codes "end") then Some word.End
-    else (if bytes_eq text (codes "expect") then Some word.Expect else None))))))
+    if bytes_eq text (codes "insert") then Some ScriptWord.Insert
+    else (if bytes_eq text (codes "delete") then Some ScriptWord.Delete
+    else (if bytes_eq text (codes "replace") then Some ScriptWord.Replace
+    else (if bytes_eq text (codes "seed") then Some ScriptWord.Seed
+    else (if bytes_eq text (codes "begin") then Some ScriptWord.Begin
+    else (if bytes_eq text (codes "end") then Some ScriptWord.End
+    else (if bytes_eq text (codes "expect") then Some ScriptWord.Expect else None))))))
 
 abbrev pub is_no_digit : ℕ → Bool
 is_no_digit byte = not (is_digit byte)
@@ -58,7 +57,7 @@ is_sign byte = byte == 43 || byte == 45
 -- the word and the number are right: the line is a guard in a script in which none may be, or has a
 -- text, which its word doesn't take
 abbrev pub flaw_after_number : ScriptWord → EditFlaw
-flaw_after_number word.Expect = Guard
+flaw_after_number ScriptWord.Expect = Guard
 flaw_after_number named = MoreText named
 
 -- what follows the leading digits of the number
@@ -84,14 +83,14 @@ flaw_before_number named rest =
     else (if begins_blank (drop 1 rest) then TwoBlanks named else number_flaw named (drop 1 rest))
 
 abbrev pub flaw_after_word : ScriptWord → List ℕ → EditFlaw
-flaw_after_word word.Begin rest = MoreText word.Begin
-flaw_after_word word.End rest = MoreText word.End
+flaw_after_word ScriptWord.Begin rest = MoreText ScriptWord.Begin
+flaw_after_word ScriptWord.End rest = MoreText ScriptWord.End
 flaw_after_word named rest = flaw_before_number named rest
 
 -- a word that a digit follows, with no blank between them
 abbrev pub flaw_of_joined : ScriptWord → EditFlaw
-flaw_of_joined word.Begin = MoreText word.Begin
-flaw_of_joined word.End = MoreText word.End
+flaw_of_joined ScriptWord.Begin = MoreText ScriptWord.Begin
+flaw_of_joined ScriptWord.End = MoreText ScriptWord.End
 flaw_of_joined named = NoBlank named
 
 -- the line begins with a word, with one that a digit follows, with one slip in a word, or with none

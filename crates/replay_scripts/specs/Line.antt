@@ -10,7 +10,6 @@ use Rattle.base_lines.specs.Limits.{MAX_DIGITS, max_script_number}
 use Rattle.replay_scripts.specs.EditFlaw.{edit_flaw_of}
 use Rattle.replay_scripts.specs.declared.edit_flaw.EditFlaw.{EditFlaw}
 use Rattle.replay_scripts.specs.declared.line.ScriptLine.{ScriptLine}
-use Rattle.replay_scripts.specs.declared.line.ScriptLine.TheVariants as line_is
 
 -- ---- the grammar of a line
 
@@ -137,8 +136,8 @@ kind_of_script_line line =
 
 -- the kind that is reported for a line
 abbrev pub kind_said : ScriptLine → LineKind
-kind_said line_is.Nothing = nothing
-kind_said line_is.Begin = begin
-kind_said line_is.End = end
-kind_said (line_is.Edit change) = edit (change_of change)
-kind_said (line_is.Nonsense flaw) = nonsense flaw
+kind_said ScriptLine.Nothing = nothing
+kind_said ScriptLine.Begin = begin
+kind_said ScriptLine.End = end
+kind_said (ScriptLine.Edit change) = edit (change_of change)
+kind_said (ScriptLine.Nonsense flaw) = nonsense flaw

@@ -4,7 +4,6 @@ use Rattle.replay_edits.specs.Edit.{Change}
 use Rattle.replay_scripts.specs.Line.{IsKind, IsWord, nonsense}
 use Rattle.replay_scripts.specs.Script.{Applied, IsBody, IsScript}
 use Rattle.replay_scripts.specs.declared.fault.ScriptFlaw.{ScriptFlaw}
-use Rattle.replay_scripts.specs.declared.fault.ScriptFlaw.TheVariants as flaw_is
 use Rattle.replay_scripts.specs.declared.fault.ScriptRefusal.{ScriptRefusal}
 use Rattle.replay_scripts.specs.declared.fault.ScriptRefusal.TheVariants.{Malformed, Memory}
 
@@ -35,19 +34,19 @@ pub record IsLineAt (number : ℕ) (whole : List (List ℕ)) (at : ℕ) (before 
 
 -- the line `at` is the first malformed one, and has this flaw
 abbrev pub IsMalformedAt : ℕ → List (List ℕ) → ℕ → ScriptFlaw → Type 0
-IsMalformedAt number whole at (flaw_is.NoEdit flaw) =
+IsMalformedAt number whole at (ScriptFlaw.NoEdit flaw) =
     (before : List (List ℕ)) × (line : List ℕ) × IsLineAt number whole at before line
     × IsKind line (nonsense flaw)
     × (AreWholeItems number before ⊎ ((begun : ℕ) × IsOpen number before begun))
-IsMalformedAt number whole at flaw_is.BeginInGroup =
+IsMalformedAt number whole at ScriptFlaw.BeginInGroup =
     (before : List (List ℕ)) × (line : List ℕ) × IsLineAt number whole at before line
     × IsWord (codes "begin") line
     × ((begun : ℕ) × IsOpen number before begun)
-IsMalformedAt number whole at flaw_is.EndOutsideGroup =
+IsMalformedAt number whole at ScriptFlaw.EndOutsideGroup =
     (before : List (List ℕ)) × (line : List ℕ) × IsLineAt number whole at before line
     × IsWord (codes "end") line × AreWholeItems number before
-IsMalformedAt number whole at flaw_is.NoEnd = IsOpen number whole at
-IsMalformedAt number whole at flaw_is.NoneGuarded = ⊥
+IsMalformedAt number whole at ScriptFlaw.NoEnd = IsOpen number whole at
+IsMalformedAt number whole at ScriptFlaw.NoneGuarded = ⊥
 
 -- the fault is that of the first malformed line, unless memory ran out
 abbrev pub IsFirstMalformed : List (List ℕ) → ScriptRefusal → Type 0

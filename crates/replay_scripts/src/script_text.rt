@@ -1,13 +1,15 @@
 //! The text of a script that takes edits back.
 
-ghost use Rattle.std.specs.Prelude.{◌≡◌, ◌∷◌, ◌++◌, [], IfOk, OnOk, codes, map, option_map};
+ghost use Rattle.std.specs.Prelude.{◌≡◌, ◌∷◌, ◌++◌, [], IfOk, OnOk, map, option_map};
 ghost use Rattle.std.specs.Prelude.{string_bytes};
 ghost use Rattle.std.specs.List.{flat_map};
+ghost use Rattle.base_text.specs.Text.{Tells};
 ghost use Rattle.replay_edits.specs.Edit.{change_of};
 ghost use Rattle.replay_scripts.specs.ScriptText.{back_in, back_lines, backs_in, change_line};
 ghost use Rattle.replay_scripts.specs.ScriptText.{group_text, groups_in, guard_lines, number_in};
 ghost use Rattle.replay_scripts.specs.ScriptText.{script_text, text_of_lines};
 
+use base_text::Text;
 use replay_edits::{Edit, LineText};
 use std::alloc::{AllocError, Global};
 
@@ -17,16 +19,6 @@ use std::alloc::{AllocError, Global};
 pub struct BackEdit {
     pub edit: Edit,
     pub expected: Option<LineText>,
-}
-
-/// Appends words and a line after them, as one line.
-fn push_line(text: &mut Vec<u8>, words: &str, line: &[u8]) -> Result<(), AllocError>
-    ensures { OnOk result (text.new.items
-        ≡ text.old.items ++ ((words.now ++ line.now) ++ codes "\n")) }
-{
-    text.extend_from_slice(words.as_bytes())?;
-    text.extend_from_slice(line)?;
-    text.extend_from_slice(b"\n")
 }
 
 /// The number of an edit.
@@ -40,82 +32,74 @@ fn number_in(edit: &Edit) -> u32
     }
 }
 
-/// Appends the guard of a place, if a line is expected there.
-fn push_guard(
-    alloc: Global,
-    text: &mut Vec<u8>,
-    place: u32,
-    expected: &Option<LineText>,
-) -> Result<(), AllocError>
+/// Writes the guard of a place, if a line is expected there.
+fn put_guard(text: &mut Text, place: u32, expected: &Option<LineText>)
     ensures { let line = option_map (λ line. line.items) expected.now in
-        OnOk result (text.new.items ≡ text.old.items ++ text_of_lines (guard_lines place line)) }
+        Tells (text_of_lines (guard_lines place line)) text.old text.new }
 {
-    match expected {
-        Some(line) => {
-            let words = format!(in alloc; "expect {place} ")?;
-            push_line(text, &words, line)
-        }
-        None => Ok(()),
+    if let Some(line) = expected {
+        write!(text, "expect {place} ");
+        text.put(line);
+        text.put(b"\n");
     }
 }
 
-/// Appends an edit, as a line of a script.
-fn push_edit(alloc: Global, text: &mut Vec<u8>, edit: &Edit) -> Result<(), AllocError>
-    ensures { OnOk result (text.new.items
-        ≡ text.old.items ++ text_of_lines (change_line (change_of edit.now) ∷ [])) }
+/// Writes an edit, as a line of a script.
+fn put_edit(text: &mut Text, edit: &Edit)
+    ensures { Tells (text_of_lines (change_line (change_of edit.now) ∷ [])) text.old text.new }
 {
     match edit {
         Edit::Insert(place, line) => {
-            let words = format!(in alloc; "insert {place} ")?;
-            push_line(text, &words, line)
+            write!(text, "insert {place} ");
+            text.put(line);
         }
-        Edit::Delete(place) => {
-            let words = format!(in alloc; "delete {place}")?;
-            push_line(text, &words, b"")
-        }
+        Edit::Delete(place) => write!(text, "delete {place}"),
         Edit::Replace(place, line) => {
-            let words = format!(in alloc; "replace {place} ")?;
-            push_line(text, &words, line)
+            write!(text, "replace {place} ");
+            text.put(line);
         }
-        Edit::Reseed(seed) => {
-            let words = format!(in alloc; "seed {seed}")?;
-            push_line(text, &words, b"")
-        }
+        Edit::Reseed(seed) => write!(text, "seed {seed}"),
     }
+    text.put(b"\n");
 }
 
-/// Appends an edit, after its guard, if it has one.
-fn push_back(alloc: Global, text: &mut Vec<u8>, back: &BackEdit) -> Result<(), AllocError>
-    ensures { OnOk result (text.new.items
-        ≡ text.old.items ++ text_of_lines (back_lines (back_in back.now))) }
+/// Writes an edit, after its guard, if it has one.
+fn put_back(text: &mut Text, back: &BackEdit)
+    ensures { Tells (text_of_lines (back_lines (back_in back.now))) text.old text.new }
 {
-    push_guard(alloc, text, number_in(&back.edit), &back.expected)?;
-    push_edit(alloc, text, &back.edit)
+    put_guard(text, number_in(&back.edit), &back.expected);
+    put_edit(text, &back.edit);
 }
 
-/// Appends edits, each after its guard.
-fn push_backs(alloc: Global, text: &mut Vec<u8>, backs: &[BackEdit]) -> Result<(), AllocError>
-    ensures { OnOk result (text.new.items
-        ≡ text.old.items ++ text_of_lines (flat_map back_lines (backs_in backs.now))) }
+/// Writes edits, each after its guard.
+fn put_backs(text: &mut Text, backs: &[BackEdit])
+    ensures { Tells (text_of_lines (flat_map back_lines (backs_in backs.now))) text.old text.new }
 {
     for back in backs {
-        push_back(alloc, text, back)?;
+        put_back(text, back);
     }
-    Ok(())
 }
 
-/// Appends edits that are made as a whole: just one, or a group.
-fn push_group(alloc: Global, text: &mut Vec<u8>, backs: &[BackEdit]) -> Result<(), AllocError>
-    ensures { OnOk result (text.new.items
-        ≡ text.old.items ++ group_text (backs_in backs.now)) }
+/// Writes edits that are made as a whole: just one, or a group.
+fn put_group(text: &mut Text, backs: &[BackEdit])
+    ensures { Tells (group_text (backs_in backs.now)) text.old text.new }
 {
     match backs {
-        [back] => push_back(alloc, text, back),
+        [back] => put_back(text, back),
         _ => {
-            text.extend_from_slice(b"begin\n")?;
-            push_backs(alloc, text, backs)?;
-            text.extend_from_slice(b"end\n")
+            text.put(b"begin\n");
+            put_backs(text, backs);
+            text.put(b"end\n");
         }
+    }
+}
+
+/// Writes groups, one after another.
+fn put_groups(text: &mut Text, groups: &[Vec<BackEdit>])
+    ensures { Tells (script_text (groups_in groups.now)) text.old text.new }
+{
+    for backs in groups {
+        put_group(text, backs);
     }
 }
 
@@ -128,10 +112,9 @@ pub fn push_script(
     ensures { OnOk result
         (text.new.items ≡ text.old.items ++ script_text (groups_in groups.now)) }
 {
-    for backs in groups {
-        push_group(alloc, text, backs)?;
-    }
-    Ok(())
+    let mut script = Text::after(alloc, text);
+    put_groups(&mut script, groups);
+    script.give_to(text)
 }
 
 /// The text that has these lines.

@@ -6,29 +6,27 @@ use Rattle.play_program.specs.Calls.Call.{Opens, Puts, Tells}
 use Rattle.play_program.specs.Calls.Told.{faulty, misused, unopened, unprinted, unread, headed}
 use Rattle.play_program.specs.Calls.Told.{unwritten, clashing, reseeded}
 use Rattle.test_runs.specs.declared.calls.KeptCall.{KeptCall}
-use Rattle.test_runs.specs.declared.calls.KeptCall.TheVariants as kept
 use Rattle.test_runs.specs.declared.calls.KeptMessage.{KeptMessage}
-use Rattle.test_runs.specs.declared.calls.KeptMessage.TheVariants as message
 use Rattle.test_runs.specs.declared.calls.MemoryFile.{MemoryFile}
 use Rattle.test_runs.specs.declared.calls.MemoryFile.TheVariants.{Cave, Log, Script}
 
 -- what a message that was kept reports
 abbrev pub told_by : KeptMessage → Told
-told_by (message.Fault fault file) = faulty fault (option_map string_bytes file)
-told_by (message.Unopened file reason) = unopened (string_bytes file) reason
-told_by (message.Unwritten file reason) = unwritten (string_bytes file) reason
-told_by (message.Unprinted reason) = unprinted reason
-told_by (message.Usage before after) = misused (string_bytes before) (string_bytes after)
-told_by (message.Unread reason) = unread reason
-told_by (message.Head log option text) = headed (string_bytes log) option.now text.items
-told_by (message.Clash file view) = clashing (string_bytes file) (option_map string_bytes view)
-told_by (message.Reseeded seed) = reseeded seed
+told_by (KeptMessage.Fault fault file) = faulty fault (option_map string_bytes file)
+told_by (KeptMessage.Unopened file reason) = unopened (string_bytes file) reason
+told_by (KeptMessage.Unwritten file reason) = unwritten (string_bytes file) reason
+told_by (KeptMessage.Unprinted reason) = unprinted reason
+told_by (KeptMessage.Usage before after) = misused (string_bytes before) (string_bytes after)
+told_by (KeptMessage.Unread reason) = unread reason
+told_by (KeptMessage.Head log option text) = headed (string_bytes log) option.now text.items
+told_by (KeptMessage.Clash file view) = clashing (string_bytes file) (option_map string_bytes view)
+told_by (KeptMessage.Reseeded seed) = reseeded seed
 
 -- which call was kept
 abbrev pub call_by : KeptCall → Call
-call_by (kept.Opens file) = Opens (string_bytes file)
-call_by (kept.Puts file bytes) = Puts (string_bytes file) bytes.items
-call_by (kept.Tells message) = Tells (told_by message)
+call_by (KeptCall.Opens file) = Opens (string_bytes file)
+call_by (KeptCall.Puts file bytes) = Puts (string_bytes file) bytes.items
+call_by (KeptCall.Tells message) = Tells (told_by message)
 
 -- the calls that were kept, in order
 abbrev pub calls_by : List KeptCall → List Call

@@ -2,10 +2,8 @@
 use Rattle.std.specs.Prelude.{ℕ, ℤ, pos, ◌-ℤ◌, int_le, true, List, [], ◌∷◌}
 use Rattle.std.specs.Ordering.{int_eq}
 use Rattle.data_rows.specs.declared.place_role.PlaceRole.{PlaceRole}
-use Rattle.data_rows.specs.declared.place_role.PlaceRole.TheVariants as place
 use Rattle.data_rows.specs.declared.role.Role.TheVariants as role
 use Rattle.cave_words.specs.declared.named.Named.{Named}
-use Rattle.cave_words.specs.declared.named.Named.TheVariants as name
 use Rattle.world_objects.specs.Objects.{Layout, after_move_to, objects_in_hands, anchor_at}
 use Rattle.cave_world.specs.declared.state.State.{State}
 use Rattle.turn_scene.specs.Parts.{with_objects, with_closing}
@@ -36,28 +34,28 @@ store role n v d = set_prop (the n) (UNSEEN -ℤ v) (move (the n) (place_of role
 
 unfoldable pub northeast_things : List (Effect (Unit {0}))
 northeast_things =
-    store place.Ne name.Bottle BOTTLE_EMPTY
-    ∷ store place.Ne name.Plant PLANT_SMALL
-    ∷ store place.Ne name.Oyster SEEN
-    ∷ store place.Ne name.Lamp LAMP_OFF
-    ∷ store place.Ne name.Rod SEEN
-    ∷ store place.Ne name.Dwarf SEEN
+    store PlaceRole.Ne Named.Bottle BOTTLE_EMPTY
+    ∷ store PlaceRole.Ne Named.Plant PLANT_SMALL
+    ∷ store PlaceRole.Ne Named.Oyster SEEN
+    ∷ store PlaceRole.Ne Named.Lamp LAMP_OFF
+    ∷ store PlaceRole.Ne Named.Rod SEEN
+    ∷ store PlaceRole.Ne Named.Dwarf SEEN
     ∷ []
 
 -- the mirror is at one end, and its second half at the other
 abbrev pub hang_mirror : Effect (Unit {0})
 hang_mirror d =
-    attach (the name.Mirror) (λ e. anchor_at (place_of place.Sw e))
-    (store place.Ne name.Mirror SEEN d)
+    attach (the Named.Mirror) (λ e. anchor_at (place_of PlaceRole.Sw e))
+    (store PlaceRole.Ne Named.Mirror SEEN d)
 
 unfoldable pub southwest_things : List (Effect (Unit {0}))
 southwest_things =
-    store place.Sw name.Grate GRATE_LOCKED
-    ∷ store place.Sw name.Snake SNAKE_GONE
-    ∷ store place.Sw name.Bird BIRD_CAGED
-    ∷ store place.Sw name.Cage SEEN
-    ∷ store place.Sw name.SecondRod SEEN
-    ∷ store place.Sw name.Pillow SEEN
+    store PlaceRole.Sw Named.Grate GRATE_LOCKED
+    ∷ store PlaceRole.Sw Named.Snake SNAKE_GONE
+    ∷ store PlaceRole.Sw Named.Bird BIRD_CAGED
+    ∷ store PlaceRole.Sw Named.Cage SEEN
+    ∷ store PlaceRole.Sw Named.SecondRod SEEN
+    ∷ store PlaceRole.Sw Named.Pillow SEEN
     ∷ hang_mirror
     ∷ []
 
@@ -81,7 +79,7 @@ with_cave_closed s = with_closing (record (s.closing) { is_closed = true }) s
 unfoldable pub close_cave : List (Effect (Unit {0}))
 close_cave =
     all_of northeast_things
-    ∷ put_player (place_of place.Ne)
+    ∷ put_player (place_of PlaceRole.Ne)
     ∷ all_of southwest_things
     ∷ change with_empty_hands
     ∷ say role.Repository

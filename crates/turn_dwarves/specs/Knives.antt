@@ -3,7 +3,6 @@ use Rattle.std.specs.Prelude.{ℕ, ◌+◌, ◌-◌, ◌*◌, ◌≤◌, nat_lt,
 use Rattle.cave_words.specs.Stream.{number_drawn}
 use Rattle.cave_world.specs.declared.dwarves.Dwarf.{Dwarf}
 use Rattle.cave_world.specs.declared.dwarves.Knife.{Knife}
-use Rattle.cave_world.specs.declared.dwarves.Knife.TheVariants as knife
 use Rattle.cave_world.specs.declared.state.State.{State}
 use Rattle.cave_world.specs.Limits.{AWAKE, PIRATE}
 use Rattle.turn_scene.specs.Parts.{with_dwarves}
@@ -60,7 +59,7 @@ abbrev pub count_hit : Effect Raider
 count_hit d = let a = attack d in with_attack (record a { hits = a.hits + 1 }) d
 
 abbrev pub is_vanished : Knife → Bool
-is_vanished knife.Vanished = true
+is_vanished Knife.Vanished = true
 is_vanished _ = false
 
 -- the game has said that knives vanish
@@ -69,7 +68,7 @@ knives_vanish d = is_vanished d.scene.state.dwarves.knife
 
 -- a knife lies where the player is
 abbrev pub with_knife_here : State → State
-with_knife_here s = with_dwarves (record (s.dwarves) { knife = knife.At s.trail.here }) s
+with_knife_here s = with_dwarves (record (s.dwarves) { knife = Knife.At s.trail.here }) s
 
 -- what happens to a knife that is thrown
 unfoldable pub thrown_rows : List (Row Raider (Unit {0}))

@@ -4,7 +4,6 @@ use Rattle.std.proofs.Common.{Option, Some, None}
 use Rattle.std.proofs.lemmas.List.Sums.{sum_by-le-sum_by}
 use Rattle.cave_data.specs.CaveView.{CaveView}
 use Rattle.cave_world.specs.declared.ending.Ending.{Ending}
-use Rattle.cave_world.specs.declared.ending.Ending.TheVariants as ending
 use Rattle.cave_world.specs.declared.state.State.{State}
 use Rattle.turn_scene.specs.Treasures.{known_treasures}
 use Rattle.turn_ends.specs.Score.{ScoreRow, points_by, most_by, worth, is_seen, is_safe}
@@ -51,11 +50,11 @@ treasures_within cave s =
 
 escape_within : (how : Option Ending) → escape_points how ≤ 45
 escape_within None = omega arith
-escape_within (Some ending.Quit) = omega arith
-escape_within (Some ending.Killed) = omega arith
-escape_within (Some ending.Klutz) = omega arith
-escape_within (Some ending.WrongWay) = omega arith
-escape_within (Some ending.Success) = omega arith
+escape_within (Some Ending.Quit) = omega arith
+escape_within (Some Ending.Killed) = omega arith
+escape_within (Some Ending.Klutz) = omega arith
+escape_within (Some Ending.WrongWay) = omega arith
+escape_within (Some Ending.Success) = omega arith
 
 points_within : (cave : CaveView) (s : State)
     → points_by (score_rows cave) s ≤ most_by (score_rows cave)

@@ -12,7 +12,6 @@ use Rattle.std.proofs.lemmas.List.FromFn.{length-map-range_with_len, get_or-map-
 use Rattle.std.proofs.lemmas.Map.Views.{any-filter_same}
 use Rattle.cave_data.specs.CaveView.{CaveView}
 use Rattle.world_objects.specs.declared.spot.Anchor.{Anchor}
-use Rattle.world_objects.specs.declared.spot.Anchor.TheVariants as anchor
 use Rattle.turn_scene.specs.Homes.{hold_of}
 use Rattle.turn_ends.specs.Begin.{is_placed_now, all_objects, objects_due, start_order}
 
@@ -74,9 +73,9 @@ order_joined (x ∷ xs) ys one two apart = (
 
 either_due : (a : Anchor) → (is_placed_now false a ≡ true → is_placed_now true a ≡ false)
     × ((is_placed_now false a || is_placed_now true a) ≡ true)
-either_due anchor.Loose = (λ t. refl, refl)
-either_due anchor.Fixed = (λ t. refl, refl)
-either_due (anchor.At place) = (λ t. absurd (false≢true t), refl)
+either_due Anchor.Loose = (λ t. refl, refl)
+either_due Anchor.Fixed = (λ t. refl, refl)
+either_due (Anchor.At place) = (λ t. absurd (false≢true t), refl)
 
 -- ---- all objects, and those that are due
 in_objects : (k : ℕ) → list_any (eqb k) all_objects ≡ (leb 1 k && ltb k (1 + 100))

@@ -4,7 +4,6 @@ use Rattle.std.specs.Prelude.{unwrap_or, [], ◌∷◌, ◌++◌, length, map, f
 use Rattle.std.specs.List.{list_any, range_with_len}
 use Rattle.cave_data.specs.CaveView.{CaveView}
 use Rattle.data_rows.specs.declared.place_role.PlaceRole.{PlaceRole}
-use Rattle.data_rows.specs.declared.place_role.PlaceRole.TheVariants as place
 use Rattle.world_objects.specs.Objects.{Layout, spot_at, place_of_spot, place_of_anchor, is_place}
 use Rattle.world_objects.specs.Lists.{with_half}
 use Rattle.cave_world.specs.State.{starting_state}
@@ -13,7 +12,6 @@ use Rattle.world_objects.specs.declared.lists.PlacedHalf.{PlacedHalf}
 use Rattle.world_objects.specs.declared.object.Half.{Half}
 use Rattle.world_objects.specs.declared.object.Half.TheVariants.{First, Second}
 use Rattle.world_objects.specs.declared.spot.Anchor.{Anchor}
-use Rattle.world_objects.specs.declared.spot.Anchor.TheVariants as anchor
 use Rattle.cave_world.specs.declared.state.State.{State}
 use Rattle.turn_scene.specs.Homes.{home, hold_of}
 use Rattle.turn_scene.specs.Places.{place_named, start_place}
@@ -31,9 +29,9 @@ start_prop cave x = if list_any (λ t. x == t) (known_treasures cave) then UNSEE
 
 -- an object belongs to those with two places, or to the others
 abbrev pub is_placed_now : Bool → Anchor → Bool
-is_placed_now twice anchor.Loose = not twice
-is_placed_now twice anchor.Fixed = not twice
-is_placed_now twice (anchor.At place) = twice
+is_placed_now twice Anchor.Loose = not twice
+is_placed_now twice Anchor.Fixed = not twice
+is_placed_now twice (Anchor.At place) = twice
 
 unfoldable pub objects_due : CaveView → Bool → List ℕ
 objects_due cave twice = filter (λ x. is_placed_now twice (hold_of cave x)) all_objects
@@ -81,9 +79,9 @@ dwarf_by_role cave role = let at = unwrap_or (place_named cave role) 0 in
 
 unfoldable pub starting_dwarves : CaveView → List Dwarf
 starting_dwarves cave =
-    dwarf_by_role cave place.Dwarf1 ∷ dwarf_by_role cave place.Dwarf2
-    ∷ dwarf_by_role cave place.Dwarf3 ∷ dwarf_by_role cave place.Dwarf4
-    ∷ dwarf_by_role cave place.Dwarf5 ∷ dwarf_by_role cave place.Chest ∷ []
+    dwarf_by_role cave PlaceRole.Dwarf1 ∷ dwarf_by_role cave PlaceRole.Dwarf2
+    ∷ dwarf_by_role cave PlaceRole.Dwarf3 ∷ dwarf_by_role cave PlaceRole.Dwarf4
+    ∷ dwarf_by_role cave PlaceRole.Dwarf5 ∷ dwarf_by_role cave PlaceRole.Chest ∷ []
 
 -- the state at the start: what isn't named here is as in a game in which nothing is placed yet
 unfoldable pub begun_state : CaveView → ℕ → State

@@ -4,7 +4,6 @@ use Rattle.std.specs.Prelude.{option_map, unwrap_or}
 use Rattle.data_rows.specs.declared.role.Role.TheVariants as role
 use Rattle.cave_data.specs.CaveView.{CaveView, Rated, class_of}
 use Rattle.cave_world.specs.declared.ending.Ending.{Ending}
-use Rattle.cave_world.specs.declared.ending.Ending.TheVariants as ending
 use Rattle.cave_world.specs.declared.ending.Question.TheVariants as question
 use Rattle.cave_world.specs.declared.part.NumberLine.TheVariants as line
 use Rattle.cave_world.specs.declared.part.Part.TheVariants as part
@@ -82,7 +81,7 @@ module _ {C : Type 0} where
 unfoldable pub death_rows : List (Row (Unit {0}) (Unit {0}))
 death_rows =
     plain_row (cave_closing ∷ [])
-    (say role.KilledClosing ∷ count_death ∷ end_as ending.Killed ∷ [])
+    (say role.KilledClosing ∷ count_death ∷ end_as Ending.Killed ∷ [])
     ∷ otherwise (ask question.Die ∷ [])
 
 -- the player dies

@@ -5,7 +5,6 @@ use Rattle.data_rows.specs.declared.role.Role.TheVariants as role
 use Rattle.data_rows.specs.declared.rows.Hint.{Hint}
 use Rattle.cave_data.specs.CaveView.{CaveView}
 use Rattle.cave_world.specs.declared.ending.Question.{Question}
-use Rattle.cave_world.specs.declared.ending.Question.TheVariants as question
 use Rattle.cave_world.specs.declared.part.NumberLine.TheVariants as line
 use Rattle.cave_world.specs.declared.part.Part.TheVariants as part
 use Rattle.cave_world.specs.declared.state.State.{State}
@@ -18,11 +17,11 @@ use Rattle.turn_scene.specs.Tests.{deaths}
 use Rattle.turn_scene.specs.Effects.{change, in_scene, say, tell}
 
 abbrev pub is_score_quit : Question → Bool
-is_score_quit question.ScoreQuit = true
+is_score_quit Question.ScoreQuit = true
 is_score_quit _ = false
 
 abbrev pub is_dragon : Question → Bool
-is_dragon question.Dragon = true
+is_dragon Question.Dragon = true
 is_dragon _ = false
 
 -- the question that asks a player who died whether to come back
@@ -42,25 +41,25 @@ tell_offer h d = in_scene (after_offer (map.get d.cave.hints h) d.scene) d
 
 -- the message of each question
 abbrev pub tell_question : Question → Effect Question
-tell_question question.Welcome = say role.Welcome
-tell_question question.Quit = say role.Quit
-tell_question question.ScoreQuit = say role.ScoreQuit
-tell_question question.Die = by_table table.Die die_rows
-tell_question (question.Hint h) = tell_offer h
-tell_question (question.Take h) = say role.HintTake
-tell_question question.Oyster = say role.OysterAsk
-tell_question question.Dragon = say role.WithWhat
+tell_question Question.Welcome = say role.Welcome
+tell_question Question.Quit = say role.Quit
+tell_question Question.ScoreQuit = say role.ScoreQuit
+tell_question Question.Die = by_table table.Die die_rows
+tell_question (Question.Hint h) = tell_offer h
+tell_question (Question.Take h) = say role.HintTake
+tell_question Question.Oyster = say role.OysterAsk
+tell_question Question.Dragon = say role.WithWhat
 
 -- the row of a question in the tables of questions and of answers
 abbrev pub question_row : Question → ℕ
-question_row question.Welcome = 1
-question_row question.Quit = 2
-question_row question.ScoreQuit = 3
-question_row question.Die = 4
-question_row (question.Hint h) = 5
-question_row (question.Take h) = 6
-question_row question.Oyster = 7
-question_row question.Dragon = 8
+question_row Question.Welcome = 1
+question_row Question.Quit = 2
+question_row Question.ScoreQuit = 3
+question_row Question.Die = 4
+question_row (Question.Hint h) = 5
+question_row (Question.Take h) = 6
+question_row Question.Oyster = 7
+question_row Question.Dragon = 8
 
 -- the message of the question is said
 abbrev pub pose : Effect Question

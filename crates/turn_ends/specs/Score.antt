@@ -10,7 +10,6 @@ use Rattle.cave_data.specs.CaveView.{CaveView}
 use Rattle.cave_words.specs.declared.named.Named.TheVariants as name
 use Rattle.world_objects.specs.Objects.{is_first_at, prop_of}
 use Rattle.cave_world.specs.declared.ending.Ending.{Ending}
-use Rattle.cave_world.specs.declared.ending.Ending.TheVariants as ending
 use Rattle.cave_world.specs.declared.state.State.{State}
 use Rattle.cave_world.specs.State.{LIVES, is_hint_taken}
 use Rattle.turn_scene.specs.Scene.{thing}
@@ -86,7 +85,7 @@ life_points s = 10 * (LIVES - s.tallies.deaths)
 -- the game has ended, but not as quit
 abbrev pub is_other_end : Option Ending → Bool
 is_other_end None = false
-is_other_end (Some ending.Quit) = false
+is_other_end (Some Ending.Quit) = false
 is_other_end _ = true
 
 abbrev pub has_other_end : State → Bool
@@ -101,9 +100,9 @@ is_closing s = s.closing.is_closing
 
 -- a closed cave, by how the game ended there
 abbrev pub escape_points : Option Ending → ℕ
-escape_points (Some ending.Success) = 45
-escape_points (Some ending.WrongWay) = 30
-escape_points (Some ending.Klutz) = 25
+escape_points (Some Ending.Success) = 45
+escape_points (Some Ending.WrongWay) = 30
+escape_points (Some Ending.Klutz) = 25
 escape_points _ = 10
 
 abbrev pub closed_points : State → ℕ

@@ -27,19 +27,28 @@ fn offer_hint<N: RowNotes>(cave: &Cave, hint: HintNumber, scene: &mut Scene<'_, 
     }
 }
 
+/// The place of a value among patterns of which one fits, the first of which has the number given.
+macro_rules! place_of {
+    ($value:expr, $number:expr; $last:pat,) => { $number };
+    ($value:expr, $number:expr; $first:pat, $($rest:tt)+) => {
+        if matches!($value, $first) { $number } else { place_of!($value, $number + 1; $($rest)+) }
+    };
+}
+
 /// The row of a question in the tables of questions and of answers.
 pub fn question_row(question: &Question) -> u8
     ensures { result ≡ question_row question.now }
 {
-    match question {
-        Question::Welcome => 1,
-        Question::Quit => 2,
-        Question::ScoreQuit => 3,
-        Question::Die => 4,
-        Question::Hint(_) => 5,
-        Question::Take(_) => 6,
-        Question::Oyster => 7,
-        Question::Dragon => 8,
+    place_of! {
+        question, 1;
+        Question::Welcome,
+        Question::Quit,
+        Question::ScoreQuit,
+        Question::Die,
+        Question::Hint(_),
+        Question::Take(_),
+        Question::Oyster,
+        Question::Dragon,
     }
 }
 

@@ -20,8 +20,6 @@ use Rattle.cave_turn.specs.Turns.{start_of_game}
 use Rattle.turn_ends.specs.Begin.{all_objects, begun_state, starting_objects}
 use Rattle.turn_dwarves.specs.Band.{dwarf_of}
 use Rattle.world_objects.specs.declared.spot.Spot.{Spot}
-use Rattle.cave_world.specs.declared.ending.Question.TheVariants as question
-use Rattle.world_objects.specs.declared.spot.Spot.TheVariants as spot
 use Rattle.cave_words.specs.declared.named.Named.TheVariants as name
 use Rattle.turn_laws.specs.Courses.{AskedInTime, DeathsComeOneByOne, IsOutsideCave, NobodyGetsOut}
 use Rattle.turn_laws.specs.Courses.{PutsInside}
@@ -55,7 +53,7 @@ held_kept cave l _ v is h = h
 
 -- a placed object isn't in the hands
 none_first : (f : ℕ → ℕ) (xs : List ℕ) (y : ℕ)
-    → is_spot_in_hands (get_or (map (λ x. spot_at (f x)) xs) y spot.Away) ≡ true → ⊥
+    → is_spot_in_hands (get_or (map (λ x. spot_at (f x)) xs) y Spot.Away) ≡ true → ⊥
 none_first f [] y held = false≢true held
 none_first f (x ∷ xs) zero held = no_hand (f x) held
 none_first f (x ∷ xs) (suc y) held = none_first f xs y held
@@ -65,7 +63,7 @@ none_carried : (cave : CaveView) (seed y : ℕ)
     → is_in_hands (start_of_game cave seed).state.objects y ≡ true → ⊥
 unfolding start_of_game begun_state starting_state starting_objects is_in_hands spot_of
 none_carried cave seed y held =
-    choose (λ (t : Spot). is_spot_in_hands t ≡ true → ⊥) (y == 0) spot.Away _
+    choose (λ (t : Spot). is_spot_in_hands t ≡ true → ⊥) (y == 0) Spot.Away _
     (λ _ now. false≢true now) (λ _ now. none_first (home cave) all_objects (y - 1) now) held
 
 pub few_in_hands : FewInHands
@@ -83,7 +81,7 @@ found : (cave : CaveView) (s : State) (line : List ℕ) → IsSomewhere s
     → IsFound (line_of cave s line)
 found cave s line somewhere command = by_place (s.trail.here == 0) refl
   where
-    nowhere : (is_some s.ending ≡ true) ⊎ (s.question ≡ Some question.Die) → ⊥
+    nowhere : (is_some s.ending ≡ true) ⊎ (s.question ≡ Some Question.Die) → ⊥
     nowhere (inl over) =
         false≢true (ap not (sym over) ∙ second_holds (is_input line) (not (is_some s.ending))
         (first_holds (is_input line && not (is_some s.ending))
@@ -171,11 +169,11 @@ few_deaths = record {
 
 -- the player is at place 0 only after the end, or if the player died
 abbrev Stands : Claim
-Stands v = v.here ≡ 0 → (is_some v.ending ≡ true) ⊎ (v.question ≡ Some question.Die)
+Stands v = v.here ≡ 0 → (is_some v.ending ≡ true) ⊎ (v.question ≡ Some Question.Die)
 
 -- if another question is open, or none, the game goes on
-not_dead : (q : Option Question) (e : Option Ending) → (q ≡ Some question.Die → ⊥) → e ≡ None
-    → (is_some e ≡ true) ⊎ (q ≡ Some question.Die) → ⊥
+not_dead : (q : Option Question) (e : Option Ending) → (q ≡ Some Question.Die → ⊥) → e ≡ None
+    → (is_some e ≡ true) ⊎ (q ≡ Some Question.Die) → ⊥
 not_dead q e other goes (inl ended) = true≢false (sym ended ∙ ap is_some goes)
 not_dead q e other goes (inr die) = other die
 
@@ -239,7 +237,7 @@ never_both = lasts (λ cave. Either) (λ cave seed. inr refl) either_kept
 
 -- a closing cave never asks whether to come back
 abbrev InTime : Option Question → Bool → Type 0
-InTime q closing = q ≡ Some question.Die → closing ≡ false
+InTime q closing = q ≡ Some Question.Die → closing ≡ false
 
 abbrev Timely : Claim
 Timely v = InTime v.question v.closing.is_closing

@@ -38,7 +38,6 @@ use Rattle.turn_scene.specs.Parts.{with_objects}
 use Rattle.world_objects.specs.declared.spot.Anchor.TheVariants as anchor
 use Rattle.data_rows.specs.declared.place_role.PlaceRole.TheVariants as landmark
 use Rattle.cave_words.specs.declared.named.Named.TheVariants as name
-use Rattle.turn_clocks.specs.declared.clocks.Clocks.TheVariants as clocks
 use Rattle.data_rows.specs.declared.role.Role.TheVariants as role
 use Rattle.cave_world.specs.declared.tables.Table.TheVariants as table
 use Rattle.cave_world.specs.declared.tables.RuleRow.{RuleRow}
@@ -194,14 +193,14 @@ still_lit c some = rw some
 
 -- what holds after the clocks
 abbrev pub After : Claim → CaveView → ℕ → Clocks → State → Type 0
-After P cave before clocks.GoOn s = On P s
-After P cave before clocks.GaveUp s = On P s
-After P cave before (clocks.Closed place) s = AfterClosure P cave before s
+After P cave before Clocks.GoOn s = On P s
+After P cave before Clocks.GaveUp s = On P s
+After P cave before (Clocks.Closed place) s = AfterClosure P cave before s
 
 -- the lamp goes on, or is passed over
 abbrev passed : CaveView → Bool → Scene → Act Clocks
 passed cave closed p =
-    if closed then act_of p (clocks.Closed p.state.trail.here) else lamp_clock (deed cave tt p)
+    if closed then act_of p (Clocks.Closed p.state.trail.here) else lamp_clock (deed cave tt p)
 
 -- the lamp is in a scene, if it is reached, as laws say of a line
 pub record IsLampOf (cave : CaveView) (l : Line) (o : Option Scene) : Type 0 where
@@ -288,7 +287,7 @@ module _ {cave : CaveView} {l : Line} {Q P : Claim} (k : IsKept cave l Q P) wher
   lamp_kept before p of h =
       let dims = burnt_kept p of.lit h in let stays = lasts (lit p) in
       guarded (λ (a : Act Clocks). After R cave before a.step a.scene.state)
-      (nothing_but (always clocks.GoOn)) (lit p) (noted table.Lamp lamp_rows)
+      (nothing_but (always Clocks.GoOn)) (lit p) (noted table.Lamp lamp_rows)
       (search (effects, tests, replaced_kept, changes, going_out_kept, stays, dims, warned_kept)
       parts 20 depth 9)
     where

@@ -23,7 +23,6 @@ use Rattle.std.specs.List.{list_any, position, prefix_len, range_with_len}
 use Rattle.cave_verbs.specs.Throwing.{killed_dwarf, without_first_at, without_one}
 use Rattle.turn_scene.specs.Reach.{is_dwarf_at}
 use Rattle.world_objects.specs.declared.spot.Spot.{Spot}
-use Rattle.world_objects.specs.declared.spot.Spot.TheVariants as spot
 use Rattle.turn_laws.specs.DwarfLaws.{is_living}
 use Rattle.turn_laws.proofs.View.{Band, Change, HasRoom, Hold, IsBandAfter, Juggle, Place, Prop}
 use Rattle.turn_laws.proofs.View.{after_change, after_taking, choose, kept_by_set, living}
@@ -77,16 +76,16 @@ spotted : {T : Type 0} (o : Layout) (x y : ℕ) (s : Spot) → is_in_hands (with
 unfolding with_spot is_in_hands spot_of
 spotted {T} o x y s held before now =
     choose (λ (l : Layout). is_in_hands l y ≡ true → T) (x == 0) o _ (λ _. before)
-    (λ some. choose (λ (t : Spot). is_spot_in_hands t ≡ true → T) (y == 0) spot.Away
-    (get_or (set o.first (x - 1) s) (y - 1) spot.Away) (λ _ never. absurd (false≢true never))
+    (λ some. choose (λ (t : Spot). is_spot_in_hands t ≡ true → T) (y == 0) Spot.Away
+    (get_or (set o.first (x - 1) s) (y - 1) Spot.Away) (λ _ never. absurd (false≢true never))
     (λ other. kept_by_set (λ (t : Spot). is_spot_in_hands t ≡ true → T) o.first (x - 1) (y - 1) s
-    spot.Away (λ was. before (was_carried other was)) (λ same. now (same_object some other same))))
+    Spot.Away (λ was. before (was_carried other was)) (λ same. now (same_object some other same))))
     held
   where
     was_carried : (y == 0) ≡ false
-        → is_spot_in_hands (get_or o.first (y - 1) spot.Away) ≡ true → is_in_hands o y ≡ true
+        → is_spot_in_hands (get_or o.first (y - 1) Spot.Away) ≡ true → is_in_hands o y ≡ true
     was_carried other was =
-        choose (λ (t : Spot). is_spot_in_hands t ≡ true) (y == 0) spot.Away _
+        choose (λ (t : Spot). is_spot_in_hands t ≡ true) (y == 0) Spot.Away _
         (λ none. absurd (true≢false (sym none ∙ other))) (λ _. was)
 
     same_object : (x == 0) ≡ false → (y == 0) ≡ false → y - 1 ≡ x - 1 → y ≡ x
@@ -95,7 +94,7 @@ spotted {T} o x y s held before now =
 -- what is at a place isn't in the hands
 pub no_hand : (place : ℕ) → is_spot_in_hands (spot_at place) ≡ true → ⊥
 no_hand place held =
-    choose (λ (s : Spot). is_spot_in_hands s ≡ true → ⊥) (place == 0) spot.Away (spot.At place)
+    choose (λ (s : Spot). is_spot_in_hands s ≡ true → ⊥) (place == 0) Spot.Away (Spot.At place)
     (λ _ now. false≢true now) (λ _ now. false≢true now) held
 
 -- what is in the hands in the second layout is there in the first
@@ -130,9 +129,9 @@ carried_more : (o : Layout) (x : ℕ)
 unfolding after_carry in_hands_up_to
 carried_more o x =
     choose (λ (p : Layout). length (objects_in_hands p) ≤ length (objects_in_hands o) + 1)
-    (is_in_hands o x) o (with_spot o x spot.InHands) (λ _. omega arith)
-    (λ _. one_more (is_in_hands o) (is_in_hands (with_spot o x spot.InHands)) x 1 100
-    (λ y held. spotted o x y spot.InHands held (λ was. inl was) (λ same _. inr same)))
+    (is_in_hands o x) o (with_spot o x Spot.InHands) (λ _. omega arith)
+    (λ _. one_more (is_in_hands o) (is_in_hands (with_spot o x Spot.InHands)) x 1 100
+    (λ y held. spotted o x y Spot.InHands held (λ was. inl was) (λ same _. inr same)))
 
 -- no more are in the hands
 pub held_fewer : (o p : Layout) → Holds o p

@@ -33,10 +33,7 @@ use Rattle.cave_turn.specs.declared.answers.Answer.TheVariants.{Neither, No, Yes
 use Rattle.turn_clocks.specs.Hints.{give_rows, price_rows}
 use Rattle.turn_scene.specs.Props.{DRAGON_DEAD, RUG_FREE}
 use Rattle.world_objects.specs.declared.spot.Anchor.TheVariants as anchor
-use Rattle.cave_world.specs.declared.ending.Ending.TheVariants as ending_is
-use Rattle.base_lines.specs.declared.log_line.LogLine.TheVariants as kind
 use Rattle.cave_words.specs.declared.named.Named.TheVariants as name
-use Rattle.cave_world.specs.declared.ending.Question.TheVariants as question
 use Rattle.turn_laws.specs.Courses.{is_lit}
 use Rattle.turn_laws.specs.Laws.{HasEnded, IsQuiet, Lasts, before_lamp, is_changed}
 use Rattle.turn_laws.specs.Laws.{is_command, is_input_kind, is_no_answer, is_priced, pays}
@@ -86,7 +83,7 @@ leaves_is a b = grind arith
 -- a question that a line leaves is not whether to come back
 unanswered : (cave : CaveView) (line : List ℕ) (q : Question) → answers cave line q ≡ false
     → is_die q ≡ false
-unanswered cave line question.Die h = absurd (true≢false h)
+unanswered cave line Question.Die h = absurd (true≢false h)
 unanswered cave line _ h = refl
 
 -- closing a question if none is open changes nothing
@@ -103,9 +100,9 @@ module _ {cave : CaveView} {l : Line} {Q P : Claim} (k : IsKept cave l Q P) wher
       (search (asking_kept P, asked, h.holds) parts 20)
     where
       asked : (is_some (map.get cave.hints i) && true) ≡ true
-          → On P (with_question (question.Take i) p.state)
+          → On P (with_question (Question.Take i) p.state)
       asked fit =
-          k.keeps (Asks (question.Take i)) (view p.state) (refl, h.calm, holds_alone _ fit) h.holds
+          k.keeps (Asks (Question.Take i)) (view p.state) (refl, h.calm, holds_alone _ fit) h.holds
 
   given_kept : l.is_paid ≡ true → (d : Deed ℕ) → On (Ready Anywhere P) d.scene.state
       → On (Ready Anywhere P) (by_table table.HintGiven give_rows d).scene.state
@@ -132,13 +129,13 @@ module _ {cave : CaveView} {l : Line} {Q P : Claim} (k : IsKept cave l Q P) wher
       all.1 (λ some. k.keeps (Puts place) _ (some, inr is) all.0)
 
   fought_kept : (p : Scene) → On (Ready Anywhere P) p.state
-      → On P (after_all fight (deed cave question.Dragon p)).scene.state
+      → On P (after_all fight (deed cave Question.Dragon p)).scene.state
   unfolding fight
   fought_kept p h =
       let dragon = thing cave name.Dragon in let rug = thing cave name.Rug in
       let q = after_look_at dragon (pos 1) p in
       let looks : On (Ready Anywhere P) q.state = look k dragon (pos 1) p h in
-      let d = after_all (first_of 3 fight) (deed cave question.Dragon p) in
+      let d = after_all (first_of 3 fight) (deed cave Question.Dragon p) in
       let dead : On (Ready Anywhere P) d.scene.state =
       moved k _ (Prop rug RUG_FREE) (moved k (view q.state) (Prop dragon DRAGON_DEAD) looks) in
       let found = lair d in let same = sym (lair_same d) in
@@ -164,21 +161,21 @@ module _ {cave : CaveView} {l : Line} {Q P : Claim} (k : IsKept cave l Q P) wher
         → (is_die q ≡ false → On (Ready Anywhere P) (without_question p.state))
         → On P (after_yes cave q (with_state (without_question p.state) p)).state
     unfolding give_instructions quit
-    agreed_kept question.Welcome p paid asked goes h free =
+    agreed_kept Question.Welcome p paid asked goes h free =
         let taken = k.keeps (Hints 2) _ tt (free refl).holds in
         arriving_kept k (start_place cave) _
         (k.keeps (Pays (pos 1000)) _ (paid refl, full_charge p.state.lamp.charge) taken)
-    agreed_kept question.Quit p paid asked goes h free =
-        ending_kept k cave ending_is.Quit _ (free refl)
-    agreed_kept question.ScoreQuit p paid asked goes h free =
-        ending_kept k cave ending_is.Quit _ (free refl)
-    agreed_kept question.Die p paid asked goes h free =
+    agreed_kept Question.Quit p paid asked goes h free =
+        ending_kept k cave Ending.Quit _ (free refl)
+    agreed_kept Question.ScoreQuit p paid asked goes h free =
+        ending_kept k cave Ending.Quit _ (free refl)
+    agreed_kept Question.Die p paid asked goes h free =
         reborn_kept k _ (mourned k unlit p.state asked goes h)
-    agreed_kept (question.Hint i) p paid asked goes h free = priced_kept i _ (free refl)
-    agreed_kept (question.Take i) p paid asked goes h free =
+    agreed_kept (Question.Hint i) p paid asked goes h free = priced_kept i _ (free refl)
+    agreed_kept (Question.Take i) p paid asked goes h free =
         (given_kept (paid refl) (deed cave i _) (free refl)).holds
-    agreed_kept question.Oyster p paid asked goes h free = k.keeps (Hints 1) _ tt (free refl).holds
-    agreed_kept question.Dragon p paid asked goes h free = fought_kept _ (free refl)
+    agreed_kept Question.Oyster p paid asked goes h free = k.keeps (Hints 1) _ tt (free refl).holds
+    agreed_kept Question.Dragon p paid asked goes h free = fought_kept _ (free refl)
 
     -- no is said to a question, which is closed
     declined_kept : (q : Question) (p : Scene) → p.state.question ≡ Some q
@@ -186,10 +183,10 @@ module _ {cave : CaveView} {l : Line} {Q P : Claim} (k : IsKept cave l Q P) wher
         → (is_die q ≡ false → On (Ready Anywhere P) (without_question p.state))
         → On P (after_no cave q (with_state (without_question p.state) p)).state
     unfolding bury
-    declined_kept question.Welcome p asked goes h free =
+    declined_kept Question.Welcome p asked goes h free =
         arriving_kept k (start_place cave) _ (free refl).holds
-    declined_kept question.Die p asked goes h free =
-        ended_kept P cave ending_is.Killed _ (mourned k unlit p.state asked goes h).1
+    declined_kept Question.Die p asked goes h free =
+        ended_kept P cave Ending.Killed _ (mourned k unlit p.state asked goes h).1
     declined_kept _ p asked goes h free = (free refl).holds
 
     -- an open question is answered, or not
@@ -252,10 +249,10 @@ module _ {cave : CaveView} {l : Line} {Q P : Claim} (k : IsKept cave l Q P) (lin
       && is_no_answer cave line s.question)
       → (pays cave line s.question ≡ true → l.is_paid ≡ true) → On Q s
       → On P (turn_on_log_line cave line kind s).state
-  as_kept kind.Comment is paid h = k.keeps Passes (view s) (unlit is) h
-  as_kept kind.Blank is paid h = k.keeps Passes (view s) (unlit is) h
-  as_kept (kind.Seed seed) is paid h = k.keeps Passes (view s) (unlit is) h
-  as_kept kind.Input is paid h = played_kept s.ending s.question is paid refl refl h
+  as_kept LogLine.Comment is paid h = k.keeps Passes (view s) (unlit is) h
+  as_kept LogLine.Blank is paid h = k.keeps Passes (view s) (unlit is) h
+  as_kept (LogLine.Seed seed) is paid h = k.keeps Passes (view s) (unlit is) h
+  as_kept LogLine.Input is paid h = played_kept s.ending s.question is paid refl refl h
 
 -- a line leads from a claim to another, if all that happens in it does
 pub turned : (cave : CaveView) (Q P : Claim) (s : State) (line : List ℕ)
@@ -302,16 +299,16 @@ quiet_played cave line None s h = absurd (false≢true h)
 -- after the end a line of any kind is quiet
 quiet_as : (cave : CaveView) (line : List ℕ) (k : LogLine) (s : State) → HasEnded s
     → IsLogLine line k → IsQuiet s line (turn_on_log_line cave line k s)
-quiet_as cave line kind.Comment s h is = silent s line
-quiet_as cave line kind.Blank s h is = silent s line
-quiet_as cave line (kind.Seed seed) s h is =
+quiet_as cave line LogLine.Comment s h is = silent s line
+quiet_as cave line LogLine.Blank s h is = silent s line
+quiet_as cave line (LogLine.Seed seed) s h is =
     record {
       says_nothing = refl;
       no_turn = refl;
       same = refl;
       same_stream = λ no. absurd (no seed is);
     }
-quiet_as cave line kind.Input s h is = quiet_played cave line s.ending s h
+quiet_as cave line LogLine.Input s h is = quiet_played cave line s.ending s h
 
 -- after the end every line is quiet
 pub end_is_quiet : (cave : CaveView) (s : State) (line : List ℕ) → HasEnded s
@@ -324,7 +321,7 @@ pub seeds_alone : (cave : CaveView) (s : State) (line : List ℕ) (seed : ℕ) �
     → turn_on_line cave s line ≡ silent_turn (with_seed s seed)
 unfolding turn_on_line
 seeds_alone cave s line seed is =
-    ap (λ k. turn_on_log_line cave line k s) (sym (log_line-only line (kind.Seed seed) is))
+    ap (λ k. turn_on_log_line cave line k s) (sym (log_line-only line (LogLine.Seed seed) is))
 
 -- one of two lines isn't a turn, and the other is
 ticks_if : (b : Bool) (x y : Turn) → x.ticked ≡ false → y.ticked ≡ true
@@ -346,10 +343,10 @@ ticks_played cave line None (Some q) s =
 ticks_as : (cave : CaveView) (line : List ℕ) (k : LogLine) (s : State)
     → (turn_on_log_line cave line k s).ticked
     ≡ is_input_kind k && not (is_some s.ending) && is_no_answer cave line s.question
-ticks_as cave line kind.Comment s = refl
-ticks_as cave line kind.Blank s = refl
-ticks_as cave line (kind.Seed seed) s = refl
-ticks_as cave line kind.Input s = ticks_played cave line s.ending s.question s
+ticks_as cave line LogLine.Comment s = refl
+ticks_as cave line LogLine.Blank s = refl
+ticks_as cave line (LogLine.Seed seed) s = refl
+ticks_as cave line LogLine.Input s = ticks_played cave line s.ending s.question s
 
 -- turns are counted for commands, and for nothing else
 pub commands_tick : (cave : CaveView) (s : State) (line : List ℕ)

@@ -30,7 +30,6 @@ use Rattle.turn_moves.specs.Journeys.{journey_of_outcome, look_round, own_motion
 use Rattle.turn_moves.specs.Journeys.{set_forth}
 use Rattle.turn_moves.specs.Squeeze.{squeeze_rows, squeeze_through}
 use Rattle.cave_words.specs.declared.named.Named.TheVariants as name
-use Rattle.cave_world.specs.declared.travel_rows.Outcome.TheVariants as outcome
 use Rattle.turn_laws.proofs.Effects.{effects, guarded, kept_by, placed, quiet, state_chosen}
 use Rattle.turn_laws.proofs.Places.{Reaches, Stopped, falling_kept, seen_kept, shown_kept}
 use Rattle.turn_laws.proofs.Places.{shown_open}
@@ -86,7 +85,7 @@ module _ {cave : CaveView} {l : Line} {Q P : Claim} (k : IsKept cave l Q P) wher
   travelled_kept emerald motion s h =
       let ways = ways_from cave s.trail.here in
       tries_kept emerald s None (count_unlisted motion ways) (from_listed motion ways)
-      (record { state = s; outcome = outcome.NoMotion }) h h
+      (record { state = s; outcome = Outcome.NoMotion }) h h
 
   squeezed_kept : (d : Deed (Unit {0})) → On R d.scene.state → On R (squeeze_through d).scene.state
   unfolding squeeze_through squeeze_rows
@@ -118,13 +117,13 @@ module _ {cave : CaveView} {l : Line} {Q P : Claim} (k : IsKept cave l Q P) wher
   led_kept : (motion : ℕ) (o : Outcome) (p : Scene) → On R p.state
       → On P (journey_of_outcome cave motion o p).scene.state
   unfolding refusal_rows
-  led_kept motion (outcome.Go place) p h = h.holds
-  led_kept motion (outcome.Special Squeeze) p h = (squeezed_kept (deed cave tt p) h).holds
-  led_kept motion (outcome.Special Bridge) p h = bridged_kept p h
-  led_kept motion (outcome.Say message) p h = h.holds
-  led_kept motion outcome.NoMotion p h =
+  led_kept motion (Outcome.Go place) p h = h.holds
+  led_kept motion (Outcome.Special Squeeze) p h = (squeezed_kept (deed cave tt p) h).holds
+  led_kept motion (Outcome.Special Bridge) p h = bridged_kept p h
+  led_kept motion (Outcome.Say message) p h = h.holds
+  led_kept motion Outcome.NoMotion p h =
       quiet P (noted table.NoMotion refusal_rows) (search parts 20) (deed cave motion p) h.holds
-  led_kept motion outcome.NoWay p h = h.holds
+  led_kept motion Outcome.NoWay p h = h.holds
 
   pub forth_kept : (motion : ℕ) (p : Scene) → On R p.state
       → On P (set_forth cave motion p).scene.state

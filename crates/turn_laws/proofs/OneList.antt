@@ -21,7 +21,6 @@ use Rattle.world_objects.specs.declared.object.Half.{Half}
 use Rattle.world_objects.specs.declared.object.Half.TheVariants.{First, Second}
 use Rattle.world_objects.specs.declared.spot.Anchor.{Anchor}
 use Rattle.world_objects.specs.declared.spot.Spot.{Spot}
-use Rattle.world_objects.specs.declared.spot.Spot.TheVariants as spot
 use Rattle.turn_laws.specs.OneList.{AreInOneList, GamesBeginSo, HalvesStay, IsInOneList}
 
 -- what holds of either of two holds of the one that is chosen
@@ -74,18 +73,18 @@ moved o l n half to lists was first = record {
 -- where an object says that its first half is, after it, or another, was put elsewhere
 said : (first : List Spot) (x n : ℕ) (s : Spot) (at : Option ℕ) → length first ≡ 100
     → (x == 0) ≡ false → (n == 0) ≡ false → n ≤ 100
-    → at ≡ place_of_spot (get_or first (n - 1) spot.Away)
+    → at ≡ place_of_spot (get_or first (n - 1) Spot.Away)
     → (if x == n then place_of_spot s else at)
-    ≡ place_of_spot (get_or (set first (x - 1) s) (n - 1) spot.Away)
+    ≡ place_of_spot (get_or (set first (x - 1) s) (n - 1) Spot.Away)
 said first x n s at all some low few was =
     choose
-    (λ (p : Option ℕ). p ≡ place_of_spot (get_or (set first (x - 1) s) (n - 1) spot.Away))
+    (λ (p : Option ℕ). p ≡ place_of_spot (get_or (set first (x - 1) s) (n - 1) Spot.Away))
     (x == n) (place_of_spot s) at
     (λ same.
     let i : n - 1 ≡ x - 1 = grind (arith, nat_tests, same) in
-    rw i (ap place_of_spot (sym (get_or-set_same first (x - 1) s spot.Away
+    rw i (ap place_of_spot (sym (get_or-set_same first (x - 1) s Spot.Away
     (grind (arith, nat_tests, all, same, low, few))))))
-    (λ other. was ∙ ap place_of_spot (sym (get_or-set_other first (x - 1) (n - 1) s spot.Away
+    (λ other. was ∙ ap place_of_spot (sym (get_or-set_other first (x - 1) (n - 1) s Spot.Away
     (λ same. grind (arith, nat_tests, some, other, low, same)))))
 
 spotted : (o : Layout) (x : ℕ) (s : Spot) → AreInOneList o → AreInOneList (with_spot o x s)
@@ -129,7 +128,7 @@ halves_stay = record {
   spot = spotted;
   anchor = anchored;
   prop = propped;
-  carry = λ o x h. choose AreInOneList (is_in_hands o x) o _ (λ _. h) (λ _. spotted o x spot.InHands h);
+  carry = λ o x h. choose AreInOneList (is_in_hands o x) o _ (λ _. h) (λ _. spotted o x Spot.InHands h);
   juggle = λ o x h.
       choose AreInOneList (is_in_hands o x) o _ (λ _. h)
       (λ _. anchored _ x _ (spotted o x (spot_of o x) h));
@@ -149,15 +148,15 @@ placed cave (x ∷ xs) o h = spotted _ x _ (anchored _ x _ (placed cave xs o h))
 unplaced : AreInOneList unplaced_objects
 unfolding unplaced_objects spot_of is_listed
 unplaced = record {
-  all = length-replicate 100 spot.Away;
+  all = length-replicate 100 Spot.Away;
   halves = λ n.
       record {
         place = None;
         only = λ q. refl;
         first = λ one few.
-            choose (λ (s : Spot). None ≡ place_of_spot s) (n == 0) spot.Away _ (λ _. refl)
+            choose (λ (s : Spot). None ≡ place_of_spot s) (n == 0) Spot.Away _ (λ _. refl)
             (λ _. ap place_of_spot
-            (sym (get_or-replicate 100 (n - 1) spot.Away spot.Away (omega (arith, one, few)))));
+            (sym (get_or-replicate 100 (n - 1) Spot.Away Spot.Away (omega (arith, one, few)))));
       };
 }
 

@@ -34,8 +34,6 @@ use Rattle.turn_moves.specs.Objects.{object_rows, object_text_rows, with_one_les
 use Rattle.turn_scene.specs.Tests.{it}
 use Rattle.world_objects.specs.Lists.{halves_at}
 use Rattle.world_objects.specs.declared.object.Half.{Half}
-use Rattle.cave_world.specs.declared.ending.Ending.TheVariants as ending_is
-use Rattle.cave_world.specs.declared.ending.Question.TheVariants as question
 use Rattle.data_rows.specs.declared.role.Role.TheVariants as role
 use Rattle.turn_scene.specs.SharedRules.{after_panic}
 use Rattle.turn_laws.proofs.Dwarves.{dwarves_kept}
@@ -66,8 +64,8 @@ die_kept P d h = quiet P (noted table.Die die_rows) (search parts 20) d h
 -- the message of a question changes no state
 asked_aloud_kept : (P : Claim) (asked : Question) (d : Deed Question) → On P d.scene.state
     → On P (tell_question asked d).scene.state
-asked_aloud_kept P question.Die d h = die_kept P d h
-asked_aloud_kept P (question.Hint i) d h = offer_kept P (map.get d.cave.hints i) d.scene h
+asked_aloud_kept P Question.Die d h = die_kept P d h
+asked_aloud_kept P (Question.Hint i) d h = offer_kept P (map.get d.cave.hints i) d.scene h
 asked_aloud_kept P _ d h = h
 
 posed_kept : (P : Claim) (d : Deed Question) → On P d.scene.state → On P (pose d).scene.state
@@ -108,13 +106,13 @@ module _ {game : CaveView} {l : Line} {Q P : Claim} (k : IsKept game l Q P)
       (search (ended_kept P, asking_kept P, killed, asked) parts 20)
     where
       killed : (p.state.closing.is_closing && true) ≡ true
-          → On P (with_ending ending_is.Killed (with_one_death p.state))
+          → On P (with_ending Ending.Killed (with_one_death p.state))
       killed closing =
-          k.keeps (Kills ending_is.Killed p.state.trail.here)
+          k.keeps (Kills Ending.Killed p.state.trail.here)
           (record (view p.state) { here = before }) (calm, holds_alone _ closing, same) h
 
       asked : (p.state.closing.is_closing && true) ≡ false
-          → On P (with_question question.Die p.state)
+          → On P (with_question Question.Die p.state)
       asked free =
           k.keeps (Dies p.state.trail.here)
           (record (view p.state) { here = before }) (calm, fails_alone _ free) h

@@ -8,7 +8,6 @@ use Rattle.cave_turn.specs.Request.{acts_by, by_object_alone, by_object_before, 
 use Rattle.cave_turn.specs.Request.{word_alone, word_aloud, word_before, word_entered}
 use Rattle.cave_turn.specs.Request.{words_of_line}
 use Rattle.cave_turn.specs.declared.object_words.ObjectWord.{ObjectWord}
-use Rattle.cave_turn.specs.declared.object_words.ObjectWord.TheVariants as object_is
 use Rattle.turn_laws.proofs.Effects.{act_chosen}
 use Rattle.turn_laws.proofs.View.{Claim, IsKept, Line, On, Ready, Somewhere, choose}
 
@@ -34,7 +33,7 @@ module _ {game : CaveView} {l : Line} {Q P : Claim} (k : IsKept game l Q P) wher
   acting_kept (Some v) d h = h
 
   found_kept : (w : ObjectWord) → Keep (by_object_alone w)
-  found_kept (object_is.Is x) d h = acting_kept d.about.half.verb _ h
+  found_kept (ObjectWord.Is x) d h = acting_kept d.about.half.verb _ h
   found_kept _ d h = h
 
   alone_kept : Keep word_alone
@@ -42,7 +41,7 @@ module _ {game : CaveView} {l : Line} {Q P : Claim} (k : IsKept game l Q P) wher
   alone_kept d h = search (then_chosen, found_kept, object_kept, acting_kept) depth 14
 
   before_kept : (w : ObjectWord) → Keep (by_object_before w)
-  before_kept (object_is.Is x) d h = alone_kept _ h
+  before_kept (ObjectWord.Is x) d h = alone_kept _ h
   before_kept _ d h = h
 
   pub read_kept : Keep words_of_line

@@ -40,12 +40,9 @@ use Rattle.turn_scene.specs.Parts.{with_objects}
 use Rattle.cave_verbs.specs.Rows.{task_of}
 use Rattle.cave_verbs.specs.Verbs.{verb_of}
 use Rattle.world_objects.specs.Objects.{after_move_to, with_prop}
-use Rattle.turn_clocks.specs.declared.clocks.Clocks.TheVariants as clocks
 use Rattle.cave_world.specs.declared.ending.Ending.TheVariants as ending_is
-use Rattle.cave_verbs.specs.declared.next.Next.TheVariants as next_is
 use Rattle.cave_world.specs.declared.part.Part.TheVariants as part
 use Rattle.cave_world.specs.declared.ending.Question.TheVariants as question
-use Rattle.cave_turn.specs.declared.request.Request.TheVariants as request
 use Rattle.turn_laws.specs.Laws.{before_lamp}
 use Rattle.turn_laws.proofs.Reading.{read_kept}
 use Rattle.turn_ends.specs.Questions.{with_question}
@@ -155,14 +152,14 @@ module _ {cave : CaveView} {l : Line} {Q P : Claim} (k : IsKept cave l Q P) wher
   -- what follows what a verb did
   following_kept : (next : Next) (p : Scene) → is_asking_apart next ≡ false
       → On (Ready Here P) p.state → On P (after_next cave next p).state
-  following_kept next_is.Stay p other h = h.holds
-  following_kept next_is.Keep p other h = h.holds
-  following_kept next_is.Describe p other h = describing_kept k p (anywhere h)
-  following_kept (next_is.Arrive place) p other h = arriving_kept k place p h.holds
-  following_kept (next_is.Ask q) p other h =
+  following_kept Next.Stay p other h = h.holds
+  following_kept Next.Keep p other h = h.holds
+  following_kept Next.Describe p other h = describing_kept k p (anywhere h)
+  following_kept (Next.Arrive place) p other h = arriving_kept k place p h.holds
+  following_kept (Next.Ask q) p other h =
       asking_kept P cave q p (k.keeps (Asks q) (view p.state)
       ((known cave q other).0, h.calm, (known cave q other).1) h.holds)
-  following_kept (next_is.End how) p other h = ending_kept k cave how p h
+  following_kept (Next.End how) p other h = ending_kept k cave how p h
 
   -- an action is done, or the game says what the cave says of it
   acting_kept : (o : Option Verb) (number x : ℕ) (word : List ℕ) (p : Scene)
@@ -179,16 +176,16 @@ module _ {cave : CaveView} {l : Line} {Q P : Claim} (k : IsKept cave l Q P) wher
   done_kept : (r : Request) (p : Scene) → On (Ready Here P) p.state
       → On P (do_request cave r p).scene.state
   unfolding after_travel after_unknown_word unknown_word_rows
-  done_kept request.Unknown p h =
+  done_kept Request.Unknown p h =
       quiet P (noted table.UnknownWord unknown_word_rows) (search parts 20)
       (deed cave (happens 20 p) (after_draw p)) h.holds
-  done_kept (request.Motion motion) p h =
+  done_kept (Request.Motion motion) p h =
       let j = journey_by_request cave motion p in
       arriving_kept k j.step j.scene (motion_kept k motion p (anywhere h))
-  done_kept (request.Tell told) p h = h.holds
-  done_kept request.Knives p h = h.holds
-  done_kept (request.Act number x word) p h = acting_kept (verb_of number) number x word p h
-  done_kept (request.WhatToDo word) p h = h.holds
+  done_kept (Request.Tell told) p h = h.holds
+  done_kept Request.Knives p h = h.holds
+  done_kept (Request.Act number x word) p h = acting_kept (verb_of number) number x word p h
+  done_kept (Request.WhatToDo word) p h = h.holds
 
   -- what was understood is carried out
   carried_out_kept : (u : Understood) (p : Scene) → On (Ready Here P) p.state
@@ -213,9 +210,9 @@ module _ {cave : CaveView} {l : Line} {Q P : Claim} (k : IsKept cave l Q P) wher
   after_clocks_kept : (words : Words) (before : ℕ) (o : Clocks) (p : Scene)
       → After (Ready Here P) cave before o p.state → On P (after_clocks cave words o p).state
   unfolding after_keeping
-  after_clocks_kept words before clocks.GoOn p h = done_for_kept words p h
-  after_clocks_kept words before clocks.GaveUp p h = ending_kept k cave ending_is.Quit p h
-  after_clocks_kept words before (clocks.Closed place) p h =
+  after_clocks_kept words before Clocks.GoOn p h = done_for_kept words p h
+  after_clocks_kept words before Clocks.GaveUp p h = ending_kept k cave ending_is.Quit p h
+  after_clocks_kept words before (Clocks.Closed place) p h =
       let v : View = record (view p.state) { here = before } in
       arriving_open k before place p h.holds.holds h.holds.calm
       (λ some. k.keeps (Puts p.state.trail.here) v (some, inl h.place) h.holds.holds)

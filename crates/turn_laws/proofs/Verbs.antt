@@ -38,8 +38,6 @@ use Rattle.cave_verbs.specs.declared.task.Task.{Task}
 use Rattle.cave_verbs.specs.declared.next.Next.TheVariants.{Ask}
 use Rattle.cave_verbs.specs.declared.next.VerbStep.{VerbStep}
 use Rattle.cave_verbs.specs.declared.next.VerbStep.TheVariants.{Done, GoOn}
-use Rattle.cave_world.specs.declared.ending.Question.TheVariants as question
-use Rattle.cave_verbs.specs.declared.verb.Verb.TheVariants as verb
 use Rattle.turn_laws.proofs.Effects.{LeadRows, Leads, Left, banded, banded_as, effects, first_holds}
 use Rattle.turn_laws.proofs.Effects.{first_leads, guarded, propped, second_holds, shown}
 use Rattle.std.specs.List.{list_any}
@@ -51,17 +49,17 @@ use Rattle.turn_laws.proofs.View.{View, after_taking, choose, is_die}
 
 -- a question is whether to come back, or about a hint
 abbrev pub is_apart : Question → Bool
-is_apart question.Die = true
-is_apart (question.Hint hint) = true
-is_apart (question.Take hint) = true
+is_apart Question.Die = true
+is_apart (Question.Hint hint) = true
+is_apart (Question.Take hint) = true
 is_apart _ = false
 
 -- any other isn't, and asks nothing of the cave
 pub known : (cave : CaveView) (q : Question) → is_apart q ≡ false
     → (is_die q ≡ false) × IsKnown cave q
-known cave question.Die other = absurd (true≢false other)
-known cave (question.Hint hint) other = absurd (true≢false other)
-known cave (question.Take hint) other = absurd (true≢false other)
+known cave Question.Die other = absurd (true≢false other)
+known cave (Question.Hint hint) other = absurd (true≢false other)
+known cave (Question.Take hint) other = absurd (true≢false other)
 known cave _ other = (refl, tt)
 
 abbrev pub is_asking_apart : Next → Bool
@@ -147,7 +145,7 @@ module _ {game : CaveView} {l : Line} {Q P : Claim} (k : IsKept game l Q P) wher
       bare_kill_rows bare_open_rows bare_quit_rows bare_read_rows bare_rows bare_score_rows
       bare_take_rows bear_along_rows blast_rows darkened_rows drink_rows eggs_rows nothing_rows
       off_rows on_rows pour_rows
-  bare_kept verb.Take = search tables parts 60
+  bare_kept Verb.Take = search tables parts 60
   bare_kept _ = search tables parts 60 depth 9
 
   -- what verbs do to an object
@@ -155,7 +153,7 @@ module _ {game : CaveView} {l : Line} {Q P : Claim} (k : IsKept game l Q P) wher
   unfolding blast_rows break_rows drink_rows drop_rows eat_rows feed_rows fill_rows find_rows
       kill_rows nothing_rows off_rows darkened_rows on_rows open_rows other_rows pour_rows read_rows
       rub_rows wake_rows wave_rows throw_rows is_dwarf_here
-  object_kept verb.Take d h = taken_kept d h
+  object_kept Verb.Take d h = taken_kept d h
   object_kept v d h = by_rows (rows_of v).1 (search (tables, killed) parts 60 depth 14 fits 4000) d h
 
   -- a verb by its own rules

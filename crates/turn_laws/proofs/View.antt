@@ -28,7 +28,6 @@ use Rattle.world_objects.specs.declared.spot.Anchor.{Anchor}
 use Rattle.cave_words.specs.declared.named.Named.TheVariants as name
 use Rattle.cave_world.specs.declared.dwarves.Dwarves.{Dwarves}
 use Rattle.data_rows.specs.declared.place_role.PlaceRole.TheVariants as landmark
-use Rattle.cave_world.specs.declared.ending.Question.TheVariants as question
 use Rattle.turn_laws.specs.Courses.{burns}
 use Rattle.turn_laws.specs.DwarfLaws.{is_living}
 use Rattle.turn_laws.specs.Laws.{brings_batteries, is_command, pays}
@@ -36,7 +35,7 @@ use Rattle.turn_laws.specs.Reachable.{IsKnown}
 
 -- the question whether to come back
 abbrev pub is_die : Question → Bool
-is_die question.Die = true
+is_die Question.Die = true
 is_die _ = false
 
 -- the dwarves without their knife
@@ -270,7 +269,7 @@ after cave (Hints i) v = record v { hints = slice_set v.hints i true }
 after cave (Ends how) v = record v { ending = Some how }
 after cave (Kills how place) v =
     record v { here = place; tallies = with_death v.tallies; ending = Some how }
-after cave (Dies place) v = record v { here = place; question = Some question.Die }
+after cave (Dies place) v = record v { here = place; question = Some Question.Die }
 after cave (Asks a) v = record v { question = Some a }
 after cave (Comes place) v = record v { here = place }
 after cave (Puts place) v = record v { here = place }
@@ -285,10 +284,10 @@ Can cave l Shuts v = int_eq v.closing.first_clock (negsuc 0) ≡ true
 Can cave l Passes v = l.is_lit ≡ false
 Can cave l (Burns c) v = Leaves l (burnt l.is_lit v.charge) c
 Can cave l Revives v =
-    (nat_le 3 (min (v.tallies.deaths + 1) 3) ≡ false) × (v.question ≡ Some question.Die)
+    (nat_le 3 (min (v.tallies.deaths + 1) 3) ≡ false) × (v.question ≡ Some Question.Die)
     × (v.ending ≡ None) × (l.is_lit ≡ false)
 Can cave l (Buries how) v =
-    (v.question ≡ Some question.Die) × (v.ending ≡ None) × (l.is_lit ≡ false)
+    (v.question ≡ Some Question.Die) × (v.ending ≡ None) × (l.is_lit ≡ false)
 Can cave l (Takes xs) v = (length xs ≤ 2) × HasRoom v.objects
 Can cave l (Bands w) v = Somewhere l v.here × IsBandAfter v.here v.band w
 Can cave l (Pays c) v = (l.is_paid ≡ true) × IsChargeAfter v.charge c
@@ -365,9 +364,9 @@ pub some_place : (n : ℕ) → (n == 0) ≡ false → n ≡ 0 → ⊥
 some_place n some none = let more = from_one n some in omega (arith, more, none)
 
 -- the player isn't asked whether to come back if nothing is asked, or something else
-pub not_asked : {q : Option Question} → q ≡ None → q ≡ Some question.Die → ⊥
+pub not_asked : {q : Option Question} → q ≡ None → q ≡ Some Question.Die → ⊥
 not_asked none asked = true≢false (sym (ap is_some asked) ∙ ap is_some none)
 
-pub not_die : (a : Question) → is_die a ≡ false → Some a ≡ Some question.Die → ⊥
+pub not_die : (a : Question) → is_die a ≡ false → Some a ≡ Some Question.Die → ⊥
 not_die a other asked =
-    let same : a ≡ question.Die = cc in true≢false (sym (ap is_die same) ∙ other)
+    let same : a ≡ Question.Die = cc in true≢false (sym (ap is_die same) ∙ other)

@@ -4,9 +4,7 @@ use Rattle.std.specs.Prelude.{[], Option, None, Some, is_some, if◌then◌else�
 use Rattle.cave_data.specs.CaveView.{CaveView}
 use Rattle.base_lines.specs.LogLine.{IsSeedLine, log_line}
 use Rattle.base_lines.specs.declared.log_line.LogLine.{LogLine}
-use Rattle.base_lines.specs.declared.log_line.LogLine.TheVariants as kind
 use Rattle.cave_world.specs.declared.ending.Question.{Question}
-use Rattle.cave_world.specs.declared.ending.Question.TheVariants as question
 use Rattle.cave_world.specs.declared.state.State.{State}
 use Rattle.turn_scene.specs.Places.{building_place, start_place}
 use Rattle.turn_scene.specs.Scene.{Scene}
@@ -45,10 +43,10 @@ SeedsAlone =
 
 -- input is any line that is not a comment, not blank and not a seed line
 abbrev pub is_input_kind : LogLine → Bool
-is_input_kind kind.Comment = false
-is_input_kind kind.Blank = false
-is_input_kind (kind.Seed seed) = false
-is_input_kind kind.Input = true
+is_input_kind LogLine.Comment = false
+is_input_kind LogLine.Blank = false
+is_input_kind (LogLine.Seed seed) = false
+is_input_kind LogLine.Input = true
 
 abbrev pub is_input : List ℕ → Bool
 is_input line = is_input_kind (log_line line)
@@ -72,7 +70,7 @@ is_command cave s line =
 abbrev pub DragonIsFoughtOrLeft : Type 0
 DragonIsFoughtOrLeft =
     (cave : CaveView) (line : List ℕ)
-    → answers cave line question.Dragon ≡ is_yes (answer_in cave line)
+    → answers cave line Question.Dragon ≡ is_yes (answer_in cave line)
 
 -- turns are counted for commands, and for nothing else
 abbrev pub CommandsTick : Type 0
@@ -99,7 +97,7 @@ FewDeaths = Lasts (λ cave s. HasFewDeaths s)
 -- the player is at place 0, which is no place, only if the game has ended, or if the player died
 -- and is asked whether to come back
 abbrev pub IsSomewhere : State → Type 0
-IsSomewhere s = s.trail.here ≡ 0 → HasEnded s ⊎ (s.question ≡ Some question.Die)
+IsSomewhere s = s.trail.here ≡ 0 → HasEnded s ⊎ (s.question ≡ Some Question.Die)
 
 -- this holds as a game begins in a cave whose first place isn't 0, and each line preserves it in a
 -- cave whose building, where the dead come back, isn't place 0
@@ -113,8 +111,8 @@ pub record PlayerIsSomewhere : Type 0 where
 
 -- the lamp gains by the price of two questions: that for the instructions, and that of a hint
 abbrev pub is_priced : Question → Bool
-is_priced question.Welcome = true
-is_priced (question.Take hint) = true
+is_priced Question.Welcome = true
+is_priced (Question.Take hint) = true
 is_priced _ = false
 
 -- the player says yes to such a question

@@ -4,7 +4,6 @@ use Rattle.std.specs.Prelude.{Option, None, Some, is_some}
 use Rattle.std.specs.FinMap as map
 use Rattle.cave_data.specs.CaveView.{CaveView}
 use Rattle.cave_world.specs.declared.ending.Question.{Question}
-use Rattle.cave_world.specs.declared.ending.Question.TheVariants as question
 use Rattle.cave_world.specs.declared.state.State.{State}
 use Rattle.turn_scene.specs.Places.{building_place, start_place}
 use Rattle.turn_ends.specs.Score.{score_of, max_score_of}
@@ -53,8 +52,8 @@ NeverBoth = Lasts (λ cave s. AsksOrEnds s)
 
 -- the cave has each hint that a question is about
 abbrev pub IsKnown : CaveView → Question → Type 0
-IsKnown cave (question.Hint hint) = is_some (map.get cave.hints hint) ≡ true
-IsKnown cave (question.Take hint) = is_some (map.get cave.hints hint) ≡ true
+IsKnown cave (Question.Hint hint) = is_some (map.get cave.hints hint) ≡ true
+IsKnown cave (Question.Take hint) = is_some (map.get cave.hints hint) ≡ true
 IsKnown cave _ = Unit {0}
 
 abbrev pub IsOpenKnown : CaveView → Option Question → Type 0

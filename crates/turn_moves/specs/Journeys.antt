@@ -7,13 +7,11 @@ use Rattle.cave_data.specs.CaveView.{CaveView}
 use Rattle.cave_words.specs.declared.named.Named.TheVariants as name
 use Rattle.cave_world.specs.Motions.{motion_number}
 use Rattle.cave_world.specs.declared.motion.Motion.{Motion}
-use Rattle.cave_world.specs.declared.motion.Motion.TheVariants as motion
 use Rattle.cave_world.specs.State.{without_visits}
 use Rattle.cave_world.specs.Travel.{rows_tried_from, travel}
 use Rattle.cave_world.specs.declared.part.Part.TheVariants as part
 use Rattle.cave_world.specs.declared.state.State.{State}
 use Rattle.cave_world.specs.declared.travel_rows.Outcome.{Outcome}
-use Rattle.cave_world.specs.declared.travel_rows.Outcome.TheVariants as outcome
 use Rattle.turn_scene.specs.Scene.{Scene, thing, with_state, after_telling, after_rows}
 use Rattle.turn_scene.specs.Scene.{after_saying, after_setting_out}
 use Rattle.turn_scene.specs.Places.{outside_place}
@@ -77,11 +75,11 @@ motion_back d = go_back (deed d.cave tt d.scene)
 -- what a motion that the player asks for does: some have their own rules
 abbrev pub own_motion_rows : List (Row ℕ (Act (Option ℕ)))
 own_motion_rows =
-    answer_row (is_motion motion.Nowhere ∷ []) no_travel
-    ∷ row_then (is_motion motion.Look ∷ []) look_round no_travel
-    ∷ row_then (is_motion motion.Cave ∷ before_cave ∷ []) (say role.CaveOut ∷ []) no_travel
-    ∷ row_then (is_motion motion.Cave ∷ []) (say role.CaveIn ∷ []) no_travel
-    ∷ answer_row (is_motion motion.Back ∷ []) motion_back ∷ []
+    answer_row (is_motion Motion.Nowhere ∷ []) no_travel
+    ∷ row_then (is_motion Motion.Look ∷ []) look_round no_travel
+    ∷ row_then (is_motion Motion.Cave ∷ before_cave ∷ []) (say role.CaveOut ∷ []) no_travel
+    ∷ row_then (is_motion Motion.Cave ∷ []) (say role.CaveIn ∷ []) no_travel
+    ∷ answer_row (is_motion Motion.Back ∷ []) motion_back ∷ []
 
 unfoldable pub own_motion : Deed ℕ → Act (Option ℕ)
 own_motion d = answer_by_table table.OwnMotions own_motion_rows
@@ -94,18 +92,18 @@ parts_of_own_motion (Some motion) = 0
 
 abbrev pub directions : List Motion
 directions =
-    motion.Up ∷ motion.Down ∷ motion.East ∷ motion.West ∷ motion.North ∷ motion.South
-    ∷ motion.Northeast ∷ motion.Southeast ∷ motion.Southwest ∷ motion.Northwest ∷ []
+    Motion.Up ∷ Motion.Down ∷ Motion.East ∷ Motion.West ∷ Motion.North ∷ Motion.South
+    ∷ Motion.Northeast ∷ Motion.Southeast ∷ Motion.Southwest ∷ Motion.Northwest ∷ []
 
 -- what is said of a motion that no row lists
 unfoldable pub refusal_rows : List (Row ℕ (Unit {0}))
 refusal_rows =
     plain_row (is_motion_of directions ∷ []) (say role.NoDir ∷ [])
-    ∷ plain_row (is_motion_of (motion.Forward ∷ motion.Left ∷ motion.Right ∷ []) ∷ [])
+    ∷ plain_row (is_motion_of (Motion.Forward ∷ Motion.Left ∷ Motion.Right ∷ []) ∷ [])
     (say role.Facing ∷ [])
-    ∷ plain_row (is_motion_of (motion.Out ∷ motion.Inside ∷ []) ∷ []) (say role.Inout ∷ [])
-    ∷ plain_row (is_motion_of (motion.Xyzzy ∷ motion.Plugh ∷ []) ∷ []) (say role.Magic ∷ [])
-    ∷ plain_row (is_motion motion.Crawl ∷ []) (say role.Crawl ∷ [])
+    ∷ plain_row (is_motion_of (Motion.Out ∷ Motion.Inside ∷ []) ∷ []) (say role.Inout ∷ [])
+    ∷ plain_row (is_motion_of (Motion.Xyzzy ∷ Motion.Plugh ∷ []) ∷ []) (say role.Magic ∷ [])
+    ∷ plain_row (is_motion Motion.Crawl ∷ []) (say role.Crawl ∷ [])
     ∷ otherwise (say role.NoMotion ∷ [])
 
 abbrev pub after_refusal : CaveView → ℕ → Scene → Scene
@@ -113,13 +111,13 @@ after_refusal cave number p = (by_table table.NoMotion refusal_rows (deed cave n
 
 -- where the outcome of a motion leads
 abbrev pub journey_of_outcome : CaveView → ℕ → Outcome → Scene → Act ℕ
-journey_of_outcome cave motion (outcome.Go place) p = act_of p place
-journey_of_outcome cave motion (outcome.Say message) p =
+journey_of_outcome cave motion (Outcome.Go place) p = act_of p place
+journey_of_outcome cave motion (Outcome.Say message) p =
     staying (after_telling (part.Message message) p)
-journey_of_outcome cave motion (outcome.Special Squeeze) p = squeeze_through (deed cave tt p)
-journey_of_outcome cave motion (outcome.Special Bridge) p = cross_bridge (deed cave tt p)
-journey_of_outcome cave motion outcome.NoWay p = staying (after_saying role.NoWay p)
-journey_of_outcome cave motion outcome.NoMotion p = staying (after_refusal cave motion p)
+journey_of_outcome cave motion (Outcome.Special Squeeze) p = squeeze_through (deed cave tt p)
+journey_of_outcome cave motion (Outcome.Special Bridge) p = cross_bridge (deed cave tt p)
+journey_of_outcome cave motion Outcome.NoWay p = staying (after_saying role.NoWay p)
+journey_of_outcome cave motion Outcome.NoMotion p = staying (after_refusal cave motion p)
 
 -- where the rows of the place lead by a motion
 unfoldable pub journey_by_rows : CaveView → ℕ → Scene → Act ℕ

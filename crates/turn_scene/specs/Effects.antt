@@ -6,10 +6,8 @@ use Rattle.cave_data.specs.CaveView.{CaveView}
 use Rattle.world_objects.specs.Objects.{after_move_to, after_carry, with_anchor, Layout}
 use Rattle.world_objects.specs.Objects.{after_juggle, with_prop}
 use Rattle.world_objects.specs.declared.spot.Anchor.{Anchor}
-use Rattle.world_objects.specs.declared.spot.Anchor.TheVariants as anchor
 use Rattle.cave_world.specs.State.{with_player_from, with_hint_taken}
 use Rattle.cave_world.specs.declared.part.Part.{Part}
-use Rattle.cave_world.specs.declared.part.Part.TheVariants as part
 use Rattle.cave_world.specs.declared.state.State.{State}
 use Rattle.cave_world.specs.declared.tables.RuleRow.{RuleRow}
 use Rattle.turn_scene.specs.declared.scene.Scene.{Scene as OpenScene}
@@ -87,10 +85,10 @@ module _ {C : Type 0} where
 
   -- an object can't be moved any more, or can be moved again
   abbrev pub fix : Thing C → Effect C
-  fix t = attach t (always anchor.Fixed)
+  fix t = attach t (always Anchor.Fixed)
 
   abbrev pub loosen : Thing C → Effect C
-  loosen t = attach t (always anchor.Loose)
+  loosen t = attach t (always Anchor.Loose)
 
   abbrev pub juggle : Thing C → Effect C
   juggle t d = in_objects (after_juggle d.scene.state.objects (t d)) d
@@ -120,7 +118,7 @@ module _ {C : Type 0} where
 
   -- a message of the cave is said
   abbrev pub tell_message : (Deed C → ℕ) → Effect C
-  tell_message message d = tell (part.Message (message d)) d
+  tell_message message d = tell (Part.Message (message d)) d
 
   -- the player is at a place, and came from there
   abbrev pub put_player : (Deed C → ℕ) → Effect C

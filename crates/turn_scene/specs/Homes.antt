@@ -4,9 +4,7 @@ use Rattle.std.specs.Prelude.{None}
 use Rattle.cave_data.specs.CaveView.{CaveView, placement_of}
 use Rattle.world_objects.specs.Objects.{spot_of, is_place}
 use Rattle.world_objects.specs.declared.spot.Anchor.{Anchor}
-use Rattle.world_objects.specs.declared.spot.Anchor.TheVariants as anchor
 use Rattle.world_objects.specs.declared.spot.Spot.{Spot}
-use Rattle.world_objects.specs.declared.spot.Spot.TheVariants as spot
 use Rattle.cave_world.specs.declared.state.State.{State}
 
 -- where an object is as the game begins
@@ -15,9 +13,9 @@ home cave x = (placement_of cave x).first
 
 -- what holds it there: -1 says that it can't be moved, and a place is that of its second half
 abbrev pub anchor_by : ℤ → Anchor
-anchor_by (pos zero) = anchor.Loose
-anchor_by (pos (suc n)) = anchor.At (suc n)
-anchor_by (negsuc n) = anchor.Fixed
+anchor_by (pos zero) = Anchor.Loose
+anchor_by (pos (suc n)) = Anchor.At (suc n)
+anchor_by (negsuc n) = Anchor.Fixed
 
 abbrev pub hold_of : CaveView → ℕ → Anchor
 hold_of cave x = anchor_by (placement_of cave x).second
@@ -32,9 +30,9 @@ second_home cave x = as_place (placement_of cave x).second
 
 -- the place of a first half; 0 is nowhere, and what is in the hands is at no place
 abbrev pub place_or_nowhere : Spot → Option ℕ
-place_or_nowhere spot.Away = Some 0
-place_or_nowhere spot.InHands = None
-place_or_nowhere (spot.At place) = Some place
+place_or_nowhere Spot.Away = Some 0
+place_or_nowhere Spot.InHands = None
+place_or_nowhere (Spot.At place) = Some place
 
 -- the first half of an object is at home, which may be nowhere
 unfoldable pub is_at_home : CaveView → State → ℕ → Bool

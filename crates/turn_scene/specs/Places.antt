@@ -4,16 +4,14 @@ use Rattle.std.specs.FinMap as map
 use Rattle.cave_data.specs.CaveView.{CaveView}
 use Rattle.data_rows.specs.PlaceRole.{place_number}
 use Rattle.data_rows.specs.declared.place_role.PlaceRole.{PlaceRole}
-use Rattle.data_rows.specs.declared.place_role.PlaceRole.TheVariants as place
 use Rattle.cave_data.specs.Bindings.{DEFAULT_START, DEFAULT_BUILDING, DEFAULT_OUTSIDE, DEFAULT_DEEP}
 use Rattle.cave_world.specs.Sight.{has_condition}
 use Rattle.turn_scene.specs.declared.conditions.PlaceCondition.{PlaceCondition}
-use Rattle.turn_scene.specs.declared.conditions.PlaceCondition.TheVariants as condition
 
 abbrev pub bit_of : PlaceCondition → ℕ
-bit_of condition.Oil = 1
-bit_of condition.Liquid = 2
-bit_of condition.NoPirate = 3
+bit_of PlaceCondition.Oil = 1
+bit_of PlaceCondition.Liquid = 2
+bit_of PlaceCondition.NoPirate = 3
 
 abbrev pub has_condition_of : CaveView → ℕ → PlaceCondition → Bool
 has_condition_of cave place c = has_condition cave place (bit_of c)
@@ -23,15 +21,15 @@ place_named cave role = map.get cave.places (place_number role)
 
 -- the place where a game begins
 unfoldable pub start_place : CaveView → ℕ
-start_place cave = unwrap_or (place_named cave place.Start) DEFAULT_START
+start_place cave = unwrap_or (place_named cave PlaceRole.Start) DEFAULT_START
 
 unfoldable pub outside_place : CaveView → ℕ
-outside_place cave = unwrap_or (place_named cave place.Outside) DEFAULT_OUTSIDE
+outside_place cave = unwrap_or (place_named cave PlaceRole.Outside) DEFAULT_OUTSIDE
 
 -- the first place of the cave's depths
 unfoldable pub deep_place : CaveView → ℕ
-deep_place cave = unwrap_or (place_named cave place.Deep) DEFAULT_DEEP
+deep_place cave = unwrap_or (place_named cave PlaceRole.Deep) DEFAULT_DEEP
 
 -- the place where treasures are to be brought
 unfoldable pub building_place : CaveView → ℕ
-building_place cave = unwrap_or (place_named cave place.Building) DEFAULT_BUILDING
+building_place cave = unwrap_or (place_named cave PlaceRole.Building) DEFAULT_BUILDING

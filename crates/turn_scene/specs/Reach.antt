@@ -13,7 +13,6 @@ use Rattle.turn_scene.specs.declared.conditions.PlaceCondition.TheVariants as co
 use Rattle.turn_scene.specs.Props.{BOTTLE_OF_OIL, BOTTLE_OF_WATER}
 use Rattle.std.specs.List.{list_any}
 use Rattle.world_objects.specs.declared.spot.Anchor.{Anchor}
-use Rattle.world_objects.specs.declared.spot.Anchor.TheVariants as anchor
 use Rattle.cave_world.specs.declared.dwarves.Dwarf.{Dwarf}
 use Rattle.cave_world.specs.Limits.{AWAKE, PIRATE}
 
@@ -69,9 +68,9 @@ is_dwarf_here s =
     && list_any (is_dwarf_at s.trail.here) (take PIRATE s.dwarves.each)
 
 abbrev pub is_anchored : Anchor → Bool
-is_anchored anchor.Loose = false
-is_anchored anchor.Fixed = true
-is_anchored (anchor.At place) = true
+is_anchored Anchor.Loose = false
+is_anchored Anchor.Fixed = true
+is_anchored (Anchor.At place) = true
 
 -- an object can't be moved
 unfoldable pub is_fixed : State → ℕ → Bool

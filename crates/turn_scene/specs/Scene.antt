@@ -6,15 +6,12 @@ use Rattle.data_rows.specs.declared.role.Role.{Role}
 use Rattle.cave_words.specs.Stream.{next, pct}
 use Rattle.cave_world.specs.State.{state_with_player_at, state_after_set_out}
 use Rattle.cave_world.specs.declared.part.Part.{Part}
-use Rattle.cave_world.specs.declared.part.Part.TheVariants as part
 use Rattle.cave_world.specs.declared.state.State.{State}
 use Rattle.cave_world.specs.declared.tables.RuleRow.{RuleRow}
-use Rattle.cave_world.specs.declared.tables.RuleRow.TheVariants as rule_row
 use Rattle.cave_world.specs.declared.tables.Table.{Table}
 use Rattle.cave_data.specs.CaveView.{CaveView}
 use Rattle.cave_world.specs.Called.{object_called}
 use Rattle.cave_words.specs.declared.named.Named.{Named}
-use Rattle.cave_words.specs.declared.named.Named.TheVariants as named
 use Rattle.turn_scene.specs.declared.scene.Scene.{Scene as OpenScene}
 use Rattle.turn_scene.specs.declared.rules.Rules.{Rules}
 
@@ -23,14 +20,14 @@ cave_of rules = rules.cave.now
 
 -- a liquid, which the bottle may hold
 abbrev pub is_liquid_name : Named → Bool
-is_liquid_name named.Water = true
-is_liquid_name named.Oil = true
+is_liquid_name Named.Water = true
+is_liquid_name Named.Oil = true
 is_liquid_name _ = false
 
 -- the object of a name: WATER and OIL count as absent if they have the number of BOTTL
 unfoldable pub thing : CaveView → Named → ℕ
 thing cave name =
-    if is_liquid_name name && object_called cave name == object_called cave named.Bottle then 0
+    if is_liquid_name name && object_called cave name == object_called cave Named.Bottle then 0
     else object_called cave name
 
 -- an object is the one of a name
@@ -92,15 +89,15 @@ after_rows rows p = record p { rows = p.rows ++ rows }
 -- a row of a table applies
 abbrev pub after_row : Table → ℕ → Scene → Scene
 after_row table number p =
-    after_rows (rule_row.OfTable table number ∷ []) p
+    after_rows (RuleRow.OfTable table number ∷ []) p
 
 -- a role's message is said
 abbrev pub after_saying : Role → Scene → Scene
-after_saying role p = after_telling (part.Role role) p
+after_saying role p = after_telling (Part.Role role) p
 
 -- the text of an object for a number is printed, if there is the object
 abbrev pub after_look_at : ℕ → ℤ → Scene → Scene
-after_look_at x v p = if x == 0 then p else after_telling (part.Object x v) p
+after_look_at x v p = if x == 0 then p else after_telling (Part.Object x v) p
 
 -- this many forced motions are left
 abbrev pub with_left : ℕ → Scene → Scene

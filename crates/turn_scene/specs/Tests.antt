@@ -5,7 +5,6 @@ use Rattle.std.specs.List.{list_any}
 use Rattle.data_rows.specs.declared.place_role.PlaceRole.{PlaceRole}
 use Rattle.cave_words.specs.Stream.{number_drawn}
 use Rattle.cave_words.specs.declared.named.Named.{Named}
-use Rattle.cave_words.specs.declared.named.Named.TheVariants as name
 use Rattle.world_objects.specs.Objects.{is_object_at, is_gone, is_place, is_in_hands}
 use Rattle.world_objects.specs.Objects.{objects_in_hands, prop_of}
 use Rattle.cave_world.specs.Sight.{dark, forced}
@@ -164,7 +163,7 @@ module _ {C : Type 0} where
 
   -- the player sees nothing
   abbrev pub in_the_dark : Test C
-  in_the_dark d = dark d.cave (thing d.cave name.Lamp) d.scene.state
+  in_the_dark d = dark d.cave (thing d.cave Named.Lamp) d.scene.state
 
   -- it was dark as the turn began
   abbrev pub was_dark : Test C

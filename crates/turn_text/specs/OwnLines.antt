@@ -2,9 +2,7 @@
 use Rattle.std.specs.Prelude.{ℕ, ◌==◌, if◌then◌else◌, List, ◌++◌, codes, decimal}
 use Rattle.base_lines.specs.Bytes.{prefix_while, is_nonblank}
 use Rattle.cave_world.specs.declared.part.NumberLine.{NumberLine}
-use Rattle.cave_world.specs.declared.part.NumberLine.TheVariants as number
 use Rattle.cave_world.specs.declared.part.WordLine.{WordLine}
-use Rattle.cave_world.specs.declared.part.WordLine.TheVariants as word
 
 -- a line with a number
 abbrev pub number_between : List ℕ → ℕ → List ℕ → List ℕ
@@ -28,18 +26,18 @@ score_line before score most after =
 
 -- the line of its kind; only the line of a score uses `most`
 unfoldable pub number_line : NumberLine → ℕ → ℕ → List ℕ
-number_line number.DwarvesHere n most =
+number_line NumberLine.DwarvesHere n most =
     number_between (codes "There are ") n
     (codes " threatening little dwarves in the room with you.\n")
-number_line number.KnivesThrown n most =
+number_line NumberLine.KnivesThrown n most =
     number_between (codes "") n (codes " of them throw knives at you!\n")
-number_line number.KnivesHit n most = number_between (codes "") n (codes " of them get you!\n")
-number_line number.HintCosts n most =
+number_line NumberLine.KnivesHit n most = number_between (codes "") n (codes " of them get you!\n")
+number_line NumberLine.HintCosts n most =
     number_between (codes "I am prepared to give you a hint, but it will cost you ") n
     (points_end n)
-number_line number.ScoreNow n most =
+number_line NumberLine.ScoreNow n most =
     score_line (codes "If you were to quit now, you would score ") n most (codes ".\n")
-number_line number.PointsWanted n most =
+number_line NumberLine.PointsWanted n most =
     number_between (codes "To achieve the next higher rating, you need ") n (more_points n)
 
 -- the line that ends a game
@@ -53,7 +51,7 @@ abbrev pub word_between : List ℕ → List ℕ → List ℕ → List ℕ
 word_between before w after = before ++ (prefix_while is_nonblank w ++ after)
 
 unfoldable pub word_line : WordLine → List ℕ → List ℕ
-word_line word.NotSeen w = word_between (codes "I see no ") w (codes " here.\n")
-word_line word.WhatToDo w = word_between (codes "What do you want to do with the ") w (codes "?\n")
-word_line word.Okay w = word_between (codes "Okay, \"") w (codes "\".\n")
-word_line word.What w = word_between (codes "") w (codes " what?\n")
+word_line WordLine.NotSeen w = word_between (codes "I see no ") w (codes " here.\n")
+word_line WordLine.WhatToDo w = word_between (codes "What do you want to do with the ") w (codes "?\n")
+word_line WordLine.Okay w = word_between (codes "Okay, \"") w (codes "\".\n")
+word_line WordLine.What w = word_between (codes "") w (codes " what?\n")

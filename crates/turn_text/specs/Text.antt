@@ -6,7 +6,6 @@ use Rattle.cave_data.specs.CaveView.{CaveView, name_of, look_of, class_of}
 use Rattle.data_rows.specs.Role.{role_number, ROLE_NAMES}
 use Rattle.data_rows.specs.declared.role.Role.{Role}
 use Rattle.cave_world.specs.declared.part.Part.{Part}
-use Rattle.cave_world.specs.declared.part.Part.TheVariants as part
 use Rattle.turn_text.specs.OwnLines.{number_line, word_line, final_line}
 
 abbrev pub or_nothing : Option (List ℕ) → List ℕ
@@ -33,17 +32,17 @@ class_text cave score = or_nothing (option_map (λ rating. rating.text) (class_o
 
 -- what a part prints at a number of turns
 unfoldable pub text_of_part : CaveView → ℕ → Part → List ℕ
-text_of_part cave turns (part.Long place) = or_nothing (map.get cave.long place)
-text_of_part cave turns (part.Short place) = or_nothing (map.get cave.short place)
-text_of_part cave turns (part.Message number) = message_text cave number
-text_of_part cave turns (part.Role role) =
+text_of_part cave turns (Part.Long place) = or_nothing (map.get cave.long place)
+text_of_part cave turns (Part.Short place) = or_nothing (map.get cave.short place)
+text_of_part cave turns (Part.Message number) = message_text cave number
+text_of_part cave turns (Part.Role role) =
     role_text cave (map.get cave.roles (role_number role)) role
-text_of_part cave turns (part.Object object prop) = look_text cave object prop
-text_of_part cave turns (part.Name object) = or_nothing (name_of cave object)
-text_of_part cave turns (part.Number form n most) = number_line form n most
-text_of_part cave turns (part.Word form word) = word_line form word
-text_of_part cave turns (part.Class score) = class_text cave score
-text_of_part cave turns (part.Turns score most) = final_line score most turns
+text_of_part cave turns (Part.Object object prop) = look_text cave object prop
+text_of_part cave turns (Part.Name object) = or_nothing (name_of cave object)
+text_of_part cave turns (Part.Number form n most) = number_line form n most
+text_of_part cave turns (Part.Word form word) = word_line form word
+text_of_part cave turns (Part.Class score) = class_text cave score
+text_of_part cave turns (Part.Turns score most) = final_line score most turns
 
 -- what the parts print, one after another
 abbrev pub text_of_all : CaveView → ℕ → List Part → List ℕ

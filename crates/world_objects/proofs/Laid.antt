@@ -9,9 +9,7 @@ use Rattle.std.proofs.lemmas.List.{length-replicate, get_or_default}
 use Rattle.world_objects.specs.declared.object.Half.{Half}
 use Rattle.world_objects.specs.declared.object.Half.TheVariants.{First, Second}
 use Rattle.world_objects.specs.declared.spot.Spot.{Spot}
-use Rattle.world_objects.specs.declared.spot.Spot.TheVariants as spot
 use Rattle.world_objects.specs.declared.spot.Anchor.{Anchor}
-use Rattle.world_objects.specs.declared.spot.Anchor.TheVariants as anchor
 use Rattle.world_objects.specs.declared.lists.PlacedHalf.{PlacedHalf}
 use Rattle.world_objects.specs.Lists.{half_number, halves_at, others, listed_at, AreRelisted}
 use Rattle.world_objects.specs.Objects.{Layout, is_listed, IsLaid, place_of_spot, place_of_anchor}
@@ -93,14 +91,14 @@ pub IsLaid-brought : (l : Layout) (x : ℕ) (s : Spot) (lists : List PlacedHalf)
 IsLaid-brought l x s lists laid low high re = record {
   firsts = λ y q h. ap (is_listed (1 + y)) (re q)
       ∙ (is_listed-listed_at (1 + y) q (First x) (place_of_spot s) (halves_at q l.lists)
-      ∙ shown_line place_of_spot (eqb (1 + y) x) q (x - 1) y s spot.Away l.first
+      ∙ shown_line place_of_spot (eqb (1 + y) x) q (x - 1) y s Spot.Away l.first
       (is_listed (1 + y) (halves_at q l.lists)) (λ e. same x y e) (λ e. other x y e low)
       (omega (arith, laid.all_first)) (laid.firsts y q h));
   seconds = λ y q h. ap (is_listed (101 + y)) (re q)
       ∙ (is_listed-listed_at (101 + y) q (First x) (place_of_spot s) (halves_at q l.lists)
       ∙ untouched (eqb (101 + y) x) (is_place q (place_of_spot s))
       (is_listed (101 + y) (halves_at q l.lists))
-      (is_place q (place_of_anchor (get_or l.second y anchor.Loose))) (after x y high)
+      (is_place q (place_of_anchor (get_or l.second y Anchor.Loose))) (after x y high)
       (laid.seconds y q h));
   all_first = length-set l.first (x - 1) s ∙ laid.all_first;
   all_second = laid.all_second;
@@ -129,11 +127,11 @@ IsLaid-anchored l x a lists laid low high re = record {
       ∙ (is_listed-listed_at (1 + y) q (Second x) (place_of_anchor a) (halves_at q l.lists)
       ∙ untouched (eqb (1 + y) (100 + x)) (is_place q (place_of_anchor a))
       (is_listed (1 + y) (halves_at q l.lists))
-      (is_place q (place_of_spot (get_or l.first y spot.Away))) (before x y h low)
+      (is_place q (place_of_spot (get_or l.first y Spot.Away))) (before x y h low)
       (laid.firsts y q h));
   seconds = λ y q h. ap (is_listed (101 + y)) (re q)
       ∙ (is_listed-listed_at (101 + y) q (Second x) (place_of_anchor a) (halves_at q l.lists)
-      ∙ shown_line place_of_anchor (eqb (101 + y) (100 + x)) q (x - 1) y a anchor.Loose l.second
+      ∙ shown_line place_of_anchor (eqb (101 + y) (100 + x)) q (x - 1) y a Anchor.Loose l.second
       (is_listed (101 + y) (halves_at q l.lists)) (λ e. same x y e) (λ e. other x y e low)
       (omega (arith, laid.all_second)) (laid.seconds y q h));
   all_first = laid.all_first;
@@ -150,20 +148,20 @@ IsLaid-anchored l x a lists laid low high re = record {
     before x y h low = grind (arith, nat_tests)
 
 pub IsLaid-nowhere : (first : List Spot) (second : List Anchor) (props : List ℤ)
-    → first ≡ replicate 100 spot.Away → second ≡ replicate 100 anchor.Loose
+    → first ≡ replicate 100 Spot.Away → second ≡ replicate 100 Anchor.Loose
     → (let m : Layout = record { first = first; second = second; props = props; lists = [] } in
     IsLaid m)
 unfolding is_listed
 IsLaid-nowhere first second props f s = record {
   firsts =
       λ y q h. ap (λ v. is_place q (place_of_spot v))
-      (sym (ap (λ l. get_or l y spot.Away) f ∙ get_or-replicate 100 y spot.Away spot.Away h));
+      (sym (ap (λ l. get_or l y Spot.Away) f ∙ get_or-replicate 100 y Spot.Away Spot.Away h));
   seconds =
       λ y q h. ap (λ v. is_place q (place_of_anchor v))
-      (sym (ap (λ l. get_or l y anchor.Loose) s
-      ∙ get_or-replicate 100 y anchor.Loose anchor.Loose h));
-  all_first = ap (λ (l : List Spot). length l) f ∙ length-replicate 100 spot.Away;
-  all_second = ap (λ (l : List Anchor). length l) s ∙ length-replicate 100 anchor.Loose;
+      (sym (ap (λ l. get_or l y Anchor.Loose) s
+      ∙ get_or-replicate 100 y Anchor.Loose Anchor.Loose h));
+  all_first = ap (λ (l : List Spot). length l) f ∙ length-replicate 100 Spot.Away;
+  all_second = ap (λ (l : List Anchor). length l) s ∙ length-replicate 100 Anchor.Loose;
 }
 
 -- what the laid objects have of one object
@@ -174,7 +172,7 @@ spot_listed l x n d laid same low high q =
     let within : n - 1 < length l.first = omega (arith, laid.all_first) in
     ap (λ k. is_listed k (halves_at q l.lists)) (sym number)
     ∙ (laid.firsts (n - 1) q (omega arith)
-    ∙ ap (λ v. is_place q (place_of_spot v)) (get_or_default l.first (n - 1) spot.Away d within))
+    ∙ ap (λ v. is_place q (place_of_spot v)) (get_or_default l.first (n - 1) Spot.Away d within))
 
 pub anchor_listed : (l : Layout) (x n : ℕ) (d : Anchor) → IsLaid l → n ≡ x → 0 < x → x ≤ 100
     → (q : ℕ)
@@ -186,7 +184,7 @@ anchor_listed l x n d laid same low high q =
     ap (λ k. is_listed k (halves_at q l.lists)) (sym number)
     ∙ (laid.seconds (n - 1) q (omega arith)
     ∙ ap (λ v. is_place q (place_of_anchor v))
-    (get_or_default l.second (n - 1) anchor.Loose d within))
+    (get_or_default l.second (n - 1) Anchor.Loose d within))
 
 stays : (n : ℕ) (h : Half) (hs : List Half) (b : Bool) → eqb (half_number h) n ≡ b
     → (b || is_listed n hs) ≡ false → others n hs ≡ hs

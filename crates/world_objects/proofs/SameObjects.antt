@@ -12,7 +12,6 @@ use Rattle.world_objects.specs.declared.spot.Anchor.{Anchor}
 use Rattle.world_objects.specs.declared.object.Half.{Half}
 use Rattle.world_objects.specs.declared.lists.PlacedHalf.{PlacedHalf}
 use Rattle.world_objects.specs.declared.objects.Objects.{Objects}
-use Rattle.world_objects.specs.declared.object.Half.TheVariants as half
 use Rattle.world_objects.specs.contracts.packed.PackedSpotPartialEq.TheImpl as packed_spot_eq
 use Rattle.world_objects.specs.contracts.packed.PackedAnchorPartialEq.TheImpl as packed_anchor_eq
 use Rattle.world_objects.specs.contracts.object.HalfPartialEq.TheImpl as half_eq
@@ -33,10 +32,10 @@ packed_anchor_decides a b =
     (unsigned_Decides (code_of_anchor a) (code_of_anchor b))
 
 half_decides : (a b : Half) → Decides (half_eq.eq-value.it a b) (a ≡ b)
-half_decides (half.First x) (half.First y) =
-    (λ e i. half.First ((unsigned_Decides x y).0 e i), λ e. (unsigned_Decides x y).1 cc)
-half_decides (half.Second x) (half.Second y) =
-    (λ e i. half.Second ((unsigned_Decides x y).0 e i), λ e. (unsigned_Decides x y).1 cc)
+half_decides (Half.First x) (Half.First y) =
+    (λ e i. Half.First ((unsigned_Decides x y).0 e i), λ e. (unsigned_Decides x y).1 cc)
+half_decides (Half.Second x) (Half.Second y) =
+    (λ e i. Half.Second ((unsigned_Decides x y).0 e i), λ e. (unsigned_Decides x y).1 cc)
 half_decides _ _ = (λ e. absurd (false≢true e), λ e. cc)
 
 pub entry_decides : (a b : PlacedHalf) → Decides (entry_eq.eq-value.it a b) (a ≡ b)

@@ -6,9 +6,7 @@ use Rattle.std.specs.Prelude.{Some, None, ◌≡◌, ◌+◌, ◌<◌, length}
 use Rattle.std.specs.List.{range_with_len, list_any}
 use Rattle.world_objects.specs.declared.object.Half.TheVariants.{First, Second}
 use Rattle.world_objects.specs.declared.spot.Spot.{Spot}
-use Rattle.world_objects.specs.declared.spot.Spot.TheVariants as spot
 use Rattle.world_objects.specs.declared.spot.Anchor.{Anchor}
-use Rattle.world_objects.specs.declared.spot.Anchor.TheVariants as anchor
 use Rattle.world_objects.specs.Lists.{after_relist, halves_at, half_number}
 use Rattle.base_lines.specs.Numbers.{LAST_OBJECT}
 use Rattle.world_objects.specs.declared.object.Half.{Half}
@@ -20,33 +18,33 @@ site_at place = if place == 0 then None else Some place
 
 -- the spot at a place; place 0 is away
 abbrev pub spot_at : ℕ → Spot
-spot_at place = if place == 0 then spot.Away else spot.At place
+spot_at place = if place == 0 then Spot.Away else Spot.At place
 
 -- the place where a first half is
 abbrev pub place_of_spot : Spot → Option ℕ
-place_of_spot spot.Away = None
-place_of_spot spot.InHands = None
-place_of_spot (spot.At place) = Some place
+place_of_spot Spot.Away = None
+place_of_spot Spot.InHands = None
+place_of_spot (Spot.At place) = Some place
 
 abbrev pub is_spot_in_hands : Spot → Bool
-is_spot_in_hands spot.Away = false
-is_spot_in_hands spot.InHands = true
-is_spot_in_hands (spot.At place) = false
+is_spot_in_hands Spot.Away = false
+is_spot_in_hands Spot.InHands = true
+is_spot_in_hands (Spot.At place) = false
 
 abbrev pub is_away_spot : Spot → Bool
-is_away_spot spot.Away = true
-is_away_spot spot.InHands = false
-is_away_spot (spot.At place) = false
+is_away_spot Spot.Away = true
+is_away_spot Spot.InHands = false
+is_away_spot (Spot.At place) = false
 
 -- the anchor of an object whose second half is at a place; at place 0 there is none
 abbrev pub anchor_at : ℕ → Anchor
-anchor_at place = if place == 0 then anchor.Loose else anchor.At place
+anchor_at place = if place == 0 then Anchor.Loose else Anchor.At place
 
 -- the place where a second half is
 abbrev pub place_of_anchor : Anchor → Option ℕ
-place_of_anchor anchor.Loose = None
-place_of_anchor anchor.Fixed = None
-place_of_anchor (anchor.At place) = Some place
+place_of_anchor Anchor.Loose = None
+place_of_anchor Anchor.Fixed = None
+place_of_anchor (Anchor.At place) = Some place
 
 -- there is a place, and it is the given one
 abbrev pub is_place : ℕ → Option ℕ → Bool
@@ -68,20 +66,20 @@ is_listed number halves = list_any (λ h. half_number h == number) halves
 pub record IsLaid (l : Layout) : Type 0 where
   pub firsts : (x q : ℕ) → x < LAST_OBJECT
       → is_listed (1 + x) (halves_at q l.lists)
-      ≡ is_place q (place_of_spot (slice_index_or l.first x spot.Away))
+      ≡ is_place q (place_of_spot (slice_index_or l.first x Spot.Away))
   pub seconds : (x q : ℕ) → x < LAST_OBJECT
       → is_listed (101 + x) (halves_at q l.lists)
-      ≡ is_place q (place_of_anchor (slice_index_or l.second x anchor.Loose))
+      ≡ is_place q (place_of_anchor (slice_index_or l.second x Anchor.Loose))
   pub all_first : length l.first ≡ LAST_OBJECT
   pub all_second : length l.second ≡ LAST_OBJECT
 
 -- where the first half of an object is
 unfoldable pub spot_of : Layout → ℕ → Spot
-spot_of o x = if x == 0 then spot.Away else slice_index_or o.first (x - 1) spot.Away
+spot_of o x = if x == 0 then Spot.Away else slice_index_or o.first (x - 1) Spot.Away
 
 -- what holds an object where it is
 unfoldable pub anchor_of : Layout → ℕ → Anchor
-anchor_of o x = if x == 0 then anchor.Loose else slice_index_or o.second (x - 1) anchor.Loose
+anchor_of o x = if x == 0 then Anchor.Loose else slice_index_or o.second (x - 1) Anchor.Loose
 
 unfoldable pub prop_of : Layout → ℕ → ℤ
 prop_of o x = if x == 0 then pos 0 else slice_index_or o.props (x - 1) (pos 0)
@@ -139,7 +137,7 @@ after_move_to o x place = with_spot o x (spot_at place)
 
 -- the first half moves from its list into the hands, if it isn't there yet
 unfoldable pub after_carry : Layout → ℕ → Layout
-after_carry o x = if is_in_hands o x then o else with_spot o x spot.InHands
+after_carry o x = if is_in_hands o x then o else with_spot o x Spot.InHands
 
 -- both halves move to the front of their lists, if the object isn't in the hands
 unfoldable pub after_juggle : Layout → ℕ → Layout
@@ -150,8 +148,8 @@ after_juggle o x = if is_in_hands o x then o else let once = with_spot o x (spot
 unfoldable pub unplaced_objects : Layout
 unplaced_objects =
     record {
-      first = replicate LAST_OBJECT spot.Away;
-      second = replicate LAST_OBJECT anchor.Loose;
+      first = replicate LAST_OBJECT Spot.Away;
+      second = replicate LAST_OBJECT Anchor.Loose;
       props = replicate LAST_OBJECT (pos 0);
       lists = [];
     }

@@ -2,30 +2,28 @@
 -- for a place.
 use Rattle.std.specs.Prelude.{◌≡◌, ◌≢◌, ℕ, zero, suc, ◌+◌, ◌≤◌, refl}
 use Rattle.world_objects.specs.declared.spot.Spot.{Spot}
-use Rattle.world_objects.specs.declared.spot.Spot.TheVariants as spot
 use Rattle.world_objects.specs.declared.spot.Anchor.{Anchor}
-use Rattle.world_objects.specs.declared.spot.Anchor.TheVariants as anchor
 use Rattle.base_lines.specs.Numbers.{LAST_PLACE}
 
 abbrev pub code_of_spot : Spot → ℕ
-code_of_spot spot.Away = 0
-code_of_spot spot.InHands = 1
-code_of_spot (spot.At place) = suc (suc place)
+code_of_spot Spot.Away = 0
+code_of_spot Spot.InHands = 1
+code_of_spot (Spot.At place) = suc (suc place)
 
 abbrev pub spot_of_code : ℕ → Spot
-spot_of_code zero = spot.Away
-spot_of_code (suc zero) = spot.InHands
-spot_of_code (suc (suc place)) = spot.At place
+spot_of_code zero = Spot.Away
+spot_of_code (suc zero) = Spot.InHands
+spot_of_code (suc (suc place)) = Spot.At place
 
 abbrev pub code_of_anchor : Anchor → ℕ
-code_of_anchor anchor.Loose = 0
-code_of_anchor anchor.Fixed = 1
-code_of_anchor (anchor.At place) = suc (suc place)
+code_of_anchor Anchor.Loose = 0
+code_of_anchor Anchor.Fixed = 1
+code_of_anchor (Anchor.At place) = suc (suc place)
 
 abbrev pub anchor_of_code : ℕ → Anchor
-anchor_of_code zero = anchor.Loose
-anchor_of_code (suc zero) = anchor.Fixed
-anchor_of_code (suc (suc place)) = anchor.At place
+anchor_of_code zero = Anchor.Loose
+anchor_of_code (suc zero) = Anchor.Fixed
+anchor_of_code (suc (suc place)) = Anchor.At place
 
 -- a code stands for a place where something can be, or for no place
 abbrev pub IsCode : ℕ → Type 0
@@ -42,11 +40,11 @@ anchor_back (suc zero) = refl
 anchor_back (suc (suc place)) = refl
 
 pub code_of_spot_back : (s : Spot) → spot_of_code (code_of_spot s) ≡ s
-code_of_spot_back spot.Away = refl
-code_of_spot_back spot.InHands = refl
-code_of_spot_back (spot.At place) = refl
+code_of_spot_back Spot.Away = refl
+code_of_spot_back Spot.InHands = refl
+code_of_spot_back (Spot.At place) = refl
 
 pub code_of_anchor_back : (a : Anchor) → anchor_of_code (code_of_anchor a) ≡ a
-code_of_anchor_back anchor.Loose = refl
-code_of_anchor_back anchor.Fixed = refl
-code_of_anchor_back (anchor.At place) = refl
+code_of_anchor_back Anchor.Loose = refl
+code_of_anchor_back Anchor.Fixed = refl
+code_of_anchor_back (Anchor.At place) = refl

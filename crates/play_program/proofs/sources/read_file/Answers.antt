@@ -5,7 +5,6 @@ use Rattle.std.proofs.lemmas.Result.{err_from_is_err_and}
 use Rattle.cave_play.specs.Stages.{IsOutsideOf}
 use Rattle.cave_play.specs.Sources.{Says}
 use Rattle.cave_play.specs.declared.fault.PlayFault.{PlayFault}
-use Rattle.cave_play.specs.declared.fault.PlayFault.TheVariants as fault
 use Rattle.cave_play.proofs.SourceLemmas.{said, some_bytes}
 use Rattle.play_command.specs.declared.line.Input.{Input}
 use Rattle.std.specs.Prelude.{Some, is_some}
@@ -14,7 +13,7 @@ use Rattle.play_program.specs.Sources.{opening_unless, telling_if, waiting_entry
 use Rattle.play_program.proofs.CallLemmas.{and_then-more}
 use Rattle.play_program.proofs.sources.read_file.Goals as goal
 
-outside : (from : Input) (found : PlayFault) → (found ≡ fault.Memory) ⊎ (found ≡ fault.Read from)
+outside : (from : Input) (found : PlayFault) → (found ≡ PlayFault.Memory) ⊎ (found ≡ PlayFault.Read from)
     → IsOutsideOf (Some from) found
 outside from found (inl is) = subst (IsOutsideOf (Some from)) (sym is) tt
 outside from found (inr is) = subst (IsOutsideOf (Some from)) (sym is) refl

@@ -1,4 +1,4 @@
--- When a derived `==` distinguishes values, as the law `exact` of a machine requires of its states.
+-- When a derived `==` distinguishes the values of a type, field by field.
 use Rattle.std.proofs.Common.{◌≡◌, ℕ, Bool, true, false, ◌&&◌, ◌==◌, List, refl, sym, ap, ◌∙◌}
 use Rattle.std.specs.Prelude.{ℤ}
 use Rattle.std.specs.Bool.{Decides}
@@ -64,8 +64,16 @@ by_moved p q r one = record {
   );
 }
 
--- for the law `exact` of states whose type is one of these
-pub ruleset equality = (
+-- the fields of a struct, as the tuple of its values
+pub told_struct : (T : Declared) {E : T.D → T.D → Bool}
+    → ((a b : T.D) → TellsApart (E a b) (T.as_values a) (T.as_values b))
+    → (a b : T.D) → TellsApart (E a b) a b
+told_struct T each a b = record {
+  decides = Decides-like _ (Cover-one T.cover T.propositions a b) (λ e. ap T.as_values e)
+      (each a b).decides;
+}
+
+pub ruleset told_apart = (
   by_number,
   by_signed,
   by_bool,
@@ -76,15 +84,3 @@ pub ruleset equality = (
   by_field,
   by_moved,
 )
-
--- the law, if `==` distinguishes the values of the type
-pub exact_value : {A : Type 0} {E : A → A → Bool} (P : A → Type 0)
-    → ((a b : A) → TellsApart (E a b) a b) → (a b : A) → P a → P b → Decides (E a b) (a ≡ b)
-exact_value P each a b _ _ = (each a b).decides
-
--- the law of a struct, if `==` distinguishes its fields
-pub exact_struct : (T : Declared) {E : T.D → T.D → Bool} (P : T.D → Type 0)
-    → ((a b : T.D) → TellsApart (E a b) (T.as_values a) (T.as_values b))
-    → (a b : T.D) → P a → P b → Decides (E a b) (a ≡ b)
-exact_struct T P each a b _ _ =
-    Decides-like _ (Cover-one T.cover T.propositions a b) (λ e. ap T.as_values e) (each a b).decides
