@@ -14,7 +14,7 @@ from typing import NamedTuple
 from common.files import section_of
 from common.sources import FUNCTION, Function, Source, functions_in, sources
 
-LAWS = ("turn_laws/", "play_laws/", "laws.rt")
+LAWS = ("turn_laws/", "play_laws/", "play_theorem/", "laws.rt")
 # A call, or a function that is handed to a method or to a function by just its name.
 CALL = re.compile(
     r"(?:(\w+)(?:::<[^>]*>)?::|(\w*\)?\??(?<!\.)\.\s*))?\b([a-z]\w*)(?=\(|::<|\)|,|;)", re.ASCII

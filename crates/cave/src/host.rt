@@ -6,7 +6,7 @@ ghost use Rattle.std.specs.Prelude.{None};
 use crate::replaced::ReplacedFile;
 use crate::seen::{SeenFile, Stamp};
 use play_program::{Message, System, replace};
-use std::fs::{File, Metadata};
+use std::fs::File;
 use std::io::ErrorKind;
 use std::{env, io};
 
@@ -24,13 +24,6 @@ impl<'a> Host<'a> {
             rt,
             seen: Vec::new(rt.alloc()),
         }
-    }
-
-    /// Keeps what was found of a file, in case it is the one that is written.
-    fn note(&mut self, file: &str, found: &Metadata) -> io::Result<()> {
-        let name = String::from_str(self.rt.alloc(), file)?;
-        let stamp = Stamp::of(found);
-        Ok(self.seen.push(SeenFile { name, stamp })?)
     }
 }
 
@@ -50,14 +43,17 @@ impl System for Host<'_> {
         }
     }
 
-    /// A folder can be opened, but not read, so it is refused here.
+    /// A folder can be opened, but not read, so it is refused here. What was found of a file is
+    /// kept, in case it is the one that is written.
     fn open(&mut self, file: &str) -> io::Result<File> {
         let opened = File::open(self.rt, file)?;
         let found = opened.metadata()?;
         if found.is_dir() {
             return Err(io::Error::from(ErrorKind::IsADirectory));
         }
-        self.note(file, &found)?;
+        let name = String::from_str(self.rt.alloc(), file)?;
+        let stamp = Stamp::of(&found);
+        self.seen.push(SeenFile { name, stamp })?;
         Ok(opened)
     }
 

@@ -63,10 +63,8 @@ const STANDARD_OUTPUT: &str = "/dev/stdout";
 
 /// Whether a file is the one that standard output goes to, which would lose what is in it.
 fn is_standard_output(rt: &HostRuntime, found: &Metadata) -> io::Result<bool> {
-    match Stamp::found(rt, STANDARD_OUTPUT)? {
-        Some(output) => Ok(output.is_of_file(Stamp::of(found))),
-        None => Ok(false),
-    }
+    let output = Stamp::found(rt, STANDARD_OUTPUT)?;
+    Ok(output.is_some_and(|output| output.is_of_file(Stamp::of(found))))
 }
 
 impl<'a> ReplacedFile<'a> {

@@ -1,13 +1,13 @@
 -- How far several logs are read.
 use Rattle.std.proofs.Common.{◌≡◌, ℕ, ◌+◌, ◌<◌, ◌≤◌, List, [], ◌∷◌, ◌++◌, drop, length, append-nil}
 use Rattle.std.proofs.Common.{append_assoc, Option, None, inr, refl, sym, ap, ◌∙◌, subst, arith}
-use Rattle.std.proofs.Common.{length-append}
+use Rattle.std.proofs.Common.{◌⊎◌, length-append}
 use Rattle.std.proofs.lemmas.List.{map-append}
 use Rattle.std.specs.List.{AllZip}
 use Rattle.std.specs.Str.Lines.{lines}
 use Rattle.std.proofs.lemmas.List.Concat.{flat_map-append}
 use Rattle.cave_play.specs.Sources.{Says, next_log}
-use Rattle.cave_play.specs.Stages.{log_fault, log_stage}
+use Rattle.cave_play.specs.Stages.{first_decided, log_fault, log_stage}
 use Rattle.cave_play.specs.Stages as stage
 use Rattle.cave_play.specs.declared.fault.PlayFault.{PlayFault}
 use Rattle.replay_edits.specs.Edit.{Game, game_of}
@@ -16,7 +16,7 @@ use Rattle.cave_world.specs.declared.part.Part.{Part}
 use Rattle.cave_world.specs.declared.state.State.{State}
 use Rattle.play_machine.specs.Moments.{Moment, noted_of}
 use Rattle.play_machine.specs.Watch.{NotesMore}
-use Rattle.cave_play.specs.Logs.{AreValidLogs, IsFoundFrom, IsFoundInLogs, games_of}
+use Rattle.cave_play.specs.Logs.{AreValidLogs, IsFoundFrom, games_of}
 use Rattle.cave_play.specs.Logs.{noted_of_all}
 use Rattle.cave_play.proofs.LogLemmas.{AllSay-some, AllZip-append, AllZip-length, AreValidLogs-more}
 use Rattle.cave_play.proofs.LogLemmas.{IsFoundFrom-here, IsFoundFrom-later, at_log}
@@ -113,7 +113,8 @@ module _ {N : Type 0} (known : List (Option (List ℕ))) (AreNotes : List Game �
         → Says (next_log logs) moves
         → IsAt known AreNotes seed place old logs → stage.IsFoundIn (log_stage moves ∷ []) found
         → (bytes : List (List ℕ)) × AllZip Says known bytes
-        × IsFoundInLogs [] bytes (at_log place found)
+        × ((((at_log place found).log ≡ None) × stage.IsFoundIn [] found)
+        ⊎ ((first_decided [] ≡ None) × IsFoundFrom 0 bytes (at_log place found)))
     IsAt-refused [] found said at decided =
         absurd (omega (arith, inside, ap length at.parts, length-append at.front [], at.many))
     IsAt-refused (log ∷ logs) found said at decided =

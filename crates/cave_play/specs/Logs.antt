@@ -60,18 +60,13 @@ IsFoundFrom place (log ∷ logs) found =
     ((found.log ≡ Some place) × IsFoundAt (log_stage log) found.fault)
     ⊎ ((log_fault log ≡ None) × IsFoundFrom (place + 1) logs found)
 
--- the fault is found at the first stages, or at the logs that are read after them
-abbrev pub IsFoundInLogs : List Stage → List (List ℕ) → LogsFault → Type 0
-IsFoundInLogs first logs found =
-    ((found.log ≡ None) × stage.IsFoundIn first found.fault)
-    ⊎ ((first_decided first ≡ None) × IsFoundFrom 0 logs found)
-
--- if neither the first stages nor the logs decide a fault, what was made is right, and otherwise
--- the fault is found in them
+-- if neither the first stages nor the logs decide a fault, what was made is right; otherwise the
+-- fault is found at those stages, or at the logs that are read after them
 abbrev pub JudgesLogs : {X : Type 0} → List Stage → List (List ℕ) → (X → Type 0)
     → Result X LogsFault → Type 0
 JudgesLogs first logs P (Ok made) = (first_decided first ≡ None) × AreValidLogs logs × P made
-JudgesLogs first logs P (Err found) = IsFoundInLogs first logs found
+JudgesLogs first logs P (Err found) = ((found.log ≡ None) × stage.IsFoundIn first found.fault)
+    ⊎ ((first_decided first ≡ None) × IsFoundFrom 0 logs found)
 
 -- what was made is right with what is found with it
 abbrev pub IsMadeReport : {F : Type 0} → (F → List ℕ → Type 0) → Reported F → Type 0

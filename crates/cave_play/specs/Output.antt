@@ -48,13 +48,10 @@ use Rattle.cave_play.specs.declared.two_logs.WithCompared.{WithCompared}
 
 -- ---- what is checked
 
--- that the database is a cave, and the greatest score that it has
-abbrev pub cave_line : ℕ → List ℕ
-cave_line most = codes "cave ok, maximum " ++ (decimal most ++ codes "\n")
-
 -- what is said about the cave of a database and its bindings, by the view
 abbrev pub check_text : CheckView → CaveView → List ℕ → List ℕ → List ℕ
-check_text CheckView.Maximum cave database bindings = cave_line (max_score_of cave)
+check_text CheckView.Maximum cave database bindings =
+    codes "cave ok, maximum " ++ (decimal (max_score_of cave) ++ codes "\n")
 check_text CheckView.Bindings cave database bindings = bindings_text cave
 check_text CheckView.Names cave database bindings = names_table cave
 check_text CheckView.Unused cave database bindings = unused_table cave

@@ -4,13 +4,12 @@ ghost use Rattle.std.specs.Prelude.{◌≡◌, ◌⊎◌, ℕ, ◌^◌, ◌<◌,
 ghost use Rattle.std.specs.Prelude.{MatchResult, length};
 ghost use Rattle.std.specs.Str.Lines.{lines};
 ghost use Rattle.replay_checkpoints.specs.Spacing.{IsSpaced};
-ghost use Rattle.cave_data.specs.Reads.{Reads};
 ghost use Rattle.replay_edits.specs.Edit.{game_of};
 ghost use Rattle.replay_scripts.specs.Guards.{IsScriptBy, script_by};
 ghost use Rattle.replay_scripts.specs.Views.{IsFaultOf, items_of};
 ghost use Rattle.cave_play.specs.Sources.{Says, IsTaken, next_log, without_cave, Leads};
 ghost use Rattle.cave_play.specs.Stages.{large_seed, every_fault, lines_fault, script_refusal};
-ghost use Rattle.cave_play.specs.Stages.{cave_refusal, inputs_fault, opening_fault, Judges};
+ghost use Rattle.cave_play.specs.Stages.{cave_refusal, opening_fault, Judges};
 ghost use Rattle.cave_play.specs.Stages.{judging_stage, cave_stages, log_stage, script_stage};
 ghost use Rattle.cave_play.specs.Output.{IsReadOf};
 ghost use Rattle.play_machine.specs.Machine.{HoldsGame};
@@ -67,18 +66,6 @@ fn cave_refusal(alloc: Global, error: CaveError, database: &[u8], bindings: &[u8
     }
 }
 
-/// The cave of a database and its bindings.
-fn cave_of(alloc: Global, database: &[u8], bindings: &[u8]) -> Result<Cave, PlayFault>
-    ensures { MatchResult result (Reads database.now bindings.now)
-        (λ found. (found ≡ PlayFault.Memory)
-        ⊎ (inputs_fault database.now bindings.now ≡ Some found)) }
-{
-    match Cave::read(alloc, database, bindings) {
-        Ok(cave) => Ok(cave),
-        Err(error) => Err(cave_refusal(alloc, error, database, bindings)),
-    }
-}
-
 /// A cave with the texts from which it was read.
 #[derive(Drop)]
 pub struct ReadCave {
@@ -97,13 +84,13 @@ pub(crate) fn read_cave<I: Sources>(alloc: Global, inputs: &mut I) -> Result<Rea
 {
     let database = inputs.read(alloc, Input::Cave)?;
     let bindings = inputs.read(alloc, Input::Bindings)?;
-    match cave_of(alloc, &database, &bindings) {
+    match Cave::read(alloc, &database, &bindings) {
         Ok(cave) => Ok(ReadCave {
             cave,
             database,
             bindings,
         }),
-        Err(fault) => Err(fault),
+        Err(error) => Err(cave_refusal(alloc, error, &database, &bindings)),
     }
 }
 

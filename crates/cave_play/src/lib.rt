@@ -1,7 +1,6 @@
 //! Runs of the program: from the bytes of its inputs to the bytes of its output.
 #![tactic(auto)]
 
-pub mod doubted;
 pub mod fault;
 pub mod inputs;
 pub mod judge;
@@ -19,7 +18,6 @@ pub use cave_world::Part;
 pub use check_doubts::DoubtFiles;
 pub use check_tables::Clue;
 pub use data_rows::{Cause, CaveError, FaultSite, Role};
-pub use doubted::run_doubts;
 pub use fault::{LogFault, PlayFault, ScriptFault};
 pub use inputs::{CaveReaders, Inputs};
 pub use logs::LogsFault;
@@ -35,6 +33,6 @@ pub use play_state_text::{Counts, push_state};
 pub use replay_difference::script::ScriptForm;
 pub use replay_edits::{Edit, EditFault, LineText};
 pub use replay_scripts::ScriptFlaw;
-pub use run::{run_check, run_edit, run_play};
+pub use run::{run_check, run_doubts, run_edit, run_play};
 pub use two_logs::{run_edit_to, run_script};
 pub use world_objects::Object;

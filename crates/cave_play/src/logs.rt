@@ -120,7 +120,8 @@ pub fn read_for_logs<I: Sources>(
     read_cave(alloc, inputs)
 }
 
-/// Plays this many logs in a cave, and makes the report on what is noted of their plays.
+/// Plays this many logs in a cave, each by itself, and makes the report on what is noted of their
+/// plays. One log at a time is held.
 pub fn report_in_cave<N: PlayNotes, I: Sources>(
     alloc: Global,
     read: &ReadCave,
@@ -142,34 +143,8 @@ pub fn report_in_cave<N: PlayNotes, I: Sources>(
     let lexicon = Lexicon::build(alloc, cave)?;
     let machine = CaveMachine::new(cave, &lexicon);
     let mut notes = N::none(alloc)?;
-    note_logs(alloc, machine, inputs, logs, seed, &mut notes)?;
-    let mut text = Vec::new(alloc);
-    let found = notes.push_report(alloc, &read.database, cave, view, logs, &mut text)?;
-    Ok(Reported { text, found })
-}
-
-/// Plays this many logs, each by itself, and notes their plays in notes that are still empty. One
-/// log at a time is held.
-fn note_logs<N: PlayNotes, I: Sources>(
-    alloc: Global,
-    machine: CaveMachine<'_>,
-    inputs: &mut I,
-    logs: usize,
-    seed: u32,
-    notes: &mut N,
-) -> Result<(), LogsFault>
-    requires fits { large_seed seed ≡ None }
-    requires many { logs ≡ length (I.held inputs.old).logs }
-    requires none { N.HasNoted [] notes.old }
-    ensures judged { (moves : List (List ℕ)) × AllZip Says (I.held inputs.old).logs moves
-        × JudgesLogs [] moves
-        (λ _. N.HasNoted (noted_of_all N.first_facts N.facts machine.entry.rules.cave.now
-        (games_of seed moves)) notes.new) result }
-    ensures all { IfOk result (λ _. (I.held inputs.new).logs ≡ []) }
-    ensures leads { Leads I.Reads inputs.old inputs.new }
-{
     for place in 0..logs {
-        match watch_play(alloc, machine, inputs, seed, notes) {
+        match watch_play(alloc, machine, inputs, seed, &mut notes) {
             Ok(_) => {}
             Err(fault) => {
                 let log = Some(place);
@@ -177,5 +152,7 @@ fn note_logs<N: PlayNotes, I: Sources>(
             }
         }
     }
-    Ok(())
+    let mut text = Vec::new(alloc);
+    let found = notes.push_report(alloc, &read.database, cave, view, logs, &mut text)?;
+    Ok(Reported { text, found })
 }

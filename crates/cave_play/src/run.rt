@@ -8,9 +8,9 @@ ghost use Rattle.replay_edits.specs.Edit.{IsGame, game_of};
 ghost use Rattle.cave_play.specs.Sources.{Says, InputTexts, AreTextsOf, AreHeld, next_log, Leads};
 ghost use Rattle.cave_play.specs.Stages.{large_seed, every_fault, Judges, Runs, RunsWith};
 ghost use Rattle.cave_play.specs.Stages.{cave_stages, log_stage, script_stage, strict_stage};
-ghost use Rattle.cave_play.specs.Stages.{play_stages, edit_stages};
-ghost use Rattle.cave_play.specs.Output.{IsChecked, IsPlayed, play_view_text, IsEditRun};
-ghost use Rattle.cave_play.specs.Output.{FinishesEdit, IsMadeEdit};
+ghost use Rattle.cave_play.specs.Stages.{doubts_stages, play_stages, edit_stages};
+ghost use Rattle.cave_play.specs.Output.{IsChecked, IsPlayed, IsEditRun, FinishesEdit, IsMadeEdit};
+ghost use Rattle.cave_play.specs.Output.{AreLeftIn, RunsDoubts, first_doubt};
 ghost use Rattle.play_edits.specs.Views.{IsMadeOf};
 ghost use Rattle.play_edits.specs.Ends.{log_ends};
 
@@ -18,11 +18,12 @@ use crate::fault::PlayFault;
 use crate::inputs::{Inputs, OneLog, Sources};
 use crate::judge::{check_every, check_seed, open_session, read_cave, read_script};
 use crate::output::{Reported, write_report};
-use crate::views::{check_text, play_view_text};
+use crate::views::{check_text, left_in, play_view_text};
 use base_lines::limits::is_large_input;
 use cave_data::Cave;
 use cave_replay::Session;
 use cave_words::Lexicon;
+use check_doubts::{Doubt, DoubtFiles};
 use play_command::{CheckView, EditView, Editing, Input, PlayView, ReportView};
 use play_edits::{EditRun, LogEnds, MadeEdit, apply_items};
 use play_machine::CaveMachine;
@@ -50,6 +51,24 @@ pub fn make_check<I: Sources>(
     made
 }
 
+/// Reads a cave and the list of known doubts, and finds the others, each with the name of its file
+/// and its line.
+pub fn make_doubts<I: Sources>(
+    alloc: Global,
+    inputs: &mut I,
+    files: &DoubtFiles<'_>,
+) -> Result<Reported<Vec<Doubt>>, PlayFault>
+    ensures judged { (texts : InputTexts) × AreHeld Input.Known (I.held inputs.old) texts
+        × Judges (doubts_stages texts.database texts.bindings texts.script)
+        (AreLeftIn files.now texts.database texts.bindings texts.script) result }
+    ensures leads { Leads I.Reads inputs.old inputs.new }
+{
+    let read = read_cave(alloc, inputs)?;
+    let listed = inputs.read(alloc, Input::Known)?;
+    let found = left_in(alloc, &read, files, listed)?;
+    Ok(found)
+}
+
 /// Plays a log, and makes of it what the view asks for: the transcript, the table of its lines, the
 /// same as JSON, the table of its score, or the state to which the log leads.
 pub fn make_play<I: Sources>(
@@ -65,7 +84,7 @@ pub fn make_play<I: Sources>(
 {
     check_seed(seed)?;
     let read = read_cave(alloc, inputs)?;
-    let made = play_in_cave(alloc, &read.cave, inputs, seed, view);
+    let made = play_view_text(alloc, &read.cave, inputs, seed, view);
     drop(read);
     made
 }
@@ -91,26 +110,6 @@ pub fn make_edit<I: Sources>(
     let made = edit_in_cave(alloc, &read.cave, inputs, editing, report);
     drop(read);
     finish_edit(editing.view, made)
-}
-
-/// What a view asks for of a play in a cave.
-fn play_in_cave<I: Sources>(
-    alloc: Global,
-    cave: &Cave,
-    inputs: &mut I,
-    seed: u32,
-    view: PlayView,
-) -> Result<Reported<()>, PlayFault>
-    requires { large_seed seed ≡ None }
-    ensures judged { (moves : List ℕ) × Says (next_log (I.held inputs.old).logs) moves
-        × Judges (log_stage moves ∷ [])
-        (λ made. made.text.items ≡ play_view_text view cave.now (game_of seed (lines moves))) result }
-    ensures leads { Leads I.Reads inputs.old inputs.new }
-{
-    let lexicon = Lexicon::build(alloc, cave)?;
-    let machine = CaveMachine::new(cave, &lexicon);
-    let text = play_view_text(alloc, machine, inputs, seed, view)?;
-    Ok(Reported { text, found: () })
 }
 
 /// What a view asks for of a script in a cave.
@@ -184,6 +183,16 @@ fn finish_edit(
     }
 }
 
+/// The fault of a strict run in a doubtful cave.
+pub fn first_doubt(strict: bool, left: &[Doubt]) -> Option<PlayFault>
+    ensures { result ≡ first_doubt strict left.now }
+{
+    match left {
+        [first, ..] if strict => Some(PlayFault::Doubt(*first)),
+        _ => None,
+    }
+}
+
 /// Checks a database and its bindings, and says so if they are a cave. Its inputs determine what it
 /// writes, as in other runs: see `one_checked_output` in `play_laws`.
 pub fn run_check<C: Read, B: Read, L: Read, S: Read, W: Write>(
@@ -201,6 +210,30 @@ pub fn run_check<C: Read, B: Read, L: Read, S: Read, W: Write>(
     let mut readers = OneLog::of(inputs);
     let made = make_check(alloc, &mut readers, view);
     write_report(made, output)
+}
+
+/// Lists what is doubtful about a cave and isn't known, each with the name of its file and its
+/// line. A strict run then fails with the first of these doubts. The script's reader has the list of
+/// known ones.
+pub fn run_doubts<C: Read, B: Read, L: Read, S: Read, W: Write>(
+    alloc: Global,
+    inputs: &mut Inputs<C, B, L, S>,
+    files: &DoubtFiles<'_>,
+    strict: bool,
+    output: &mut W,
+) -> Result<(), PlayFault>
+    ensures runs { (texts : InputTexts)
+        × AreTextsOf C.remaining B.remaining L.remaining S.remaining inputs.old texts
+        × RunsDoubts strict files.now texts (W.contents output.old) (W.contents output.new)
+        result }
+{
+    let mut readers = OneLog::of(inputs);
+    let made = make_doubts(alloc, &mut readers, files);
+    let left = write_report(made, output)?;
+    match first_doubt(strict, &left) {
+        Some(fault) => Err(fault),
+        None => Ok(()),
+    }
 }
 
 /// Plays a log and writes what the view asks for.

@@ -1,15 +1,12 @@
 //! What views ask for of a cave, and of a play in it.
 
-ghost use Rattle.std.specs.Prelude.{◌≡◌, ℕ, List, [], ◌∷◌, None, ◌++◌, MatchResult, OnOk};
+ghost use Rattle.std.specs.Prelude.{◌≡◌, ℕ, List, [], ◌∷◌, None, IfOk, MatchResult};
 ghost use Rattle.std.specs.Str.Lines.{lines};
 ghost use Rattle.check_doubts.specs.Doubts.{doubts};
-ghost use Rattle.check_doubts.specs.Known.{doubt_entry};
-ghost use Rattle.check_tables.specs.Known.{entry_lines};
 ghost use Rattle.replay_edits.specs.Edit.{game_of};
 ghost use Rattle.cave_play.specs.Sources.{Says, next_log, Leads};
 ghost use Rattle.cave_play.specs.Stages.{large_seed, Judges, log_stage};
-ghost use Rattle.cave_play.specs.Output.{cave_line, check_text, play_view_text};
-ghost use Rattle.turn_ends.specs.Score.{max_score_of};
+ghost use Rattle.cave_play.specs.Output.{AreLeft, check_text, play_view_text};
 
 use crate::fault::PlayFault;
 use crate::inputs::Sources;
@@ -17,8 +14,9 @@ use crate::judge::{ReadCave, watch_play};
 use crate::output::Reported;
 use base_text::Text;
 use cave_data::Cave;
-use check_doubts::{DoubtEntries, doubts};
-use check_tables::known::put_entries;
+use cave_words::Lexicon;
+use check_doubts::{Doubt, DoubtEntries, DoubtFiles, doubts, put_doubts};
+use check_tables::known::{KnownList, put_entries};
 use check_tables::{push_bindings, push_names, push_unused, push_words};
 use play_command::{CheckView, PlayView};
 use play_machine::{
@@ -40,78 +38,93 @@ pub(crate) fn check_text(
     let cave = &read.cave;
     let mut text = Vec::new(alloc);
     match view {
-        CheckView::Maximum => push_maximum(alloc, cave, &mut text)?,
+        CheckView::Maximum => {
+            let line = format!(in alloc; "cave ok, maximum {}\n", max_score(cave))?;
+            text.extend_from_slice(line.as_bytes())?;
+        }
         CheckView::Bindings => push_bindings(alloc, cave, &mut text)?,
         CheckView::Names => push_names(alloc, cave, &mut text)?,
         CheckView::Unused => push_unused(alloc, cave, &mut text)?,
         CheckView::Words => push_words(alloc, cave, &mut text)?,
-        CheckView::Known => push_known(alloc, read, &mut text)?,
+        CheckView::Known => {
+            let found = doubts(alloc, cave, &read.database, &read.bindings)?;
+            let mut known = Text::after(alloc, &mut text);
+            put_entries(&mut known, &DoubtEntries, "", &found);
+            known.give_to(&mut text)?;
+        }
     }
     Ok(Reported { text, found: () })
 }
 
-/// Appends the line that says that a database is a cave.
-fn push_maximum(alloc: Global, cave: &Cave, text: &mut Vec<u8>) -> Result<(), AllocError>
-    ensures { OnOk result
-        (text.new.items ≡ text.old.items ++ cave_line (max_score_of cave.now)) }
+/// The doubts of a cave that a list doesn't know, with what is said of them and of the list.
+pub(crate) fn left_in(
+    alloc: Global,
+    read: &ReadCave,
+    files: &DoubtFiles<'_>,
+    list: Vec<u8>,
+) -> Result<Reported<Vec<Doubt>>, AllocError>
+    ensures left { let all = doubts read.now.cave read.now.database.items read.now.bindings.items in
+        IfOk result (AreLeft files.now list.items all) }
 {
-    let most = max_score(cave);
-    let line = format!(in alloc; "cave ok, maximum {most}\n")?;
-    text.extend_from_slice(line.as_bytes())
-}
-
-/// Appends all that is doubtful about a cave, as a list of what is known has it.
-fn push_known(alloc: Global, read: &ReadCave, text: &mut Vec<u8>) -> Result<(), AllocError>
-    ensures { let all = doubts read.now.cave read.now.database.items read.now.bindings.items in
-        OnOk result (text.new.items ≡ text.old.items ++ entry_lines doubt_entry [] all) }
-{
-    let found = doubts(alloc, &read.cave, &read.database, &read.bindings)?;
-    let mut known = Text::after(alloc, text);
-    put_entries(&mut known, &DoubtEntries, "", &found);
-    known.give_to(text)
+    let all = doubts(alloc, &read.cave, &read.database, &read.bindings)?;
+    let known = KnownList::of(alloc, files.known, list)?;
+    let found = known.unknown(alloc, &DoubtEntries, &all)?;
+    let mut entries = Text::new(alloc);
+    put_entries(&mut entries, &DoubtEntries, "", &all);
+    let entries = entries.finish()?;
+    let mut text = Text::new(alloc);
+    known.put_unmet(&mut text, "no doubt says this", &entries);
+    put_doubts(&mut text, files, &found);
+    let text = text.finish()?;
+    Ok(Reported { text, found })
 }
 
 /// What a view asks for of the play of a log that is read.
 pub(crate) fn play_view_text<I: Sources>(
     alloc: Global,
-    machine: CaveMachine<'_>,
+    cave: &Cave,
     inputs: &mut I,
     seed: u32,
     view: PlayView,
-) -> Result<Vec<u8>, PlayFault>
+) -> Result<Reported<()>, PlayFault>
     requires { large_seed seed ≡ None }
     ensures judged { (moves : List ℕ) × Says (next_log (I.held inputs.old).logs) moves
-        × Judges (log_stage moves ∷ []) (λ text. text.items
-        ≡ play_view_text view machine.entry.rules.cave.now (game_of seed (lines moves))) result }
+        × Judges (log_stage moves ∷ [])
+        (λ made. made.text.items ≡ play_view_text view cave.now (game_of seed (lines moves))) result }
     ensures leads { Leads I.Reads inputs.old inputs.new }
 {
+    let lexicon = Lexicon::build(alloc, cave)?;
+    let machine = CaveMachine::new(cave, &lexicon);
     let mut text = Vec::new(alloc);
     match view {
         PlayView::Transcript => {
             let mut transcript = Transcript { text };
             let end = watch_play(alloc, machine, inputs, seed, &mut transcript)?;
             push_play_end(alloc, machine, &end.state, end.turns, &mut transcript.text)?;
-            Ok(transcript.text)
+            let text = transcript.text;
+            Ok(Reported { text, found: () })
         }
         PlayView::Steps => {
             let mut table = StepTable { text };
             watch_play(alloc, machine, inputs, seed, &mut table)?;
-            Ok(table.text)
+            let text = table.text;
+            Ok(Reported { text, found: () })
         }
         PlayView::Walk => {
             let mut walk = WalkLines::after(alloc, text);
             watch_play(alloc, machine, inputs, seed, &mut walk)?;
-            Ok(walk.text)
+            let text = walk.text;
+            Ok(Reported { text, found: () })
         }
         PlayView::Score => {
             let end = watch_play(alloc, machine, inputs, seed, &mut Unwatched)?;
             push_score_table(alloc, &mut text, &machine.rules(), &end.state)?;
-            Ok(text)
+            Ok(Reported { text, found: () })
         }
         PlayView::FinalState => {
             let end = watch_play(alloc, machine, inputs, seed, &mut Unwatched)?;
             push_state_after(alloc, machine, &end.state, end.turns, &mut text)?;
-            Ok(text)
+            Ok(Reported { text, found: () })
         }
     }
 }

@@ -85,6 +85,9 @@ pub record Reply : Type 0 where
   pub question : Question
   pub answer : Answer
 
+abbrev pub close_question : Effect Reply
+close_question = change without_question
+
 abbrev pub says_yes : Test Reply
 says_yes d = is_yes d.about.answer
 
@@ -98,15 +101,15 @@ abbrev pub do_no : Effect Reply
 do_no d = in_scene (after_no d.cave d.about.question d.scene) d
 
 -- the message of the question is said again
-abbrev pub repeat_question : Effect Reply
-repeat_question d = in_scene (after_question d.cave d.about.question d.scene) d
+abbrev pub pose : Effect Reply
+pose d = in_scene (after_question d.cave d.about.question d.scene) d
 
 -- yes and no close the question; any other answer leaves it open
 unfoldable pub reply_rows : List (Row Reply (Unit {0}))
 reply_rows =
-    plain_row (says_yes ∷ []) (change without_question ∷ do_yes ∷ [])
-    ∷ plain_row (says_no ∷ []) (change without_question ∷ do_no ∷ [])
-    ∷ otherwise (say role.Answer ∷ repeat_question ∷ [])
+    plain_row (says_yes ∷ []) (close_question ∷ do_yes ∷ [])
+    ∷ plain_row (says_no ∷ []) (close_question ∷ do_no ∷ [])
+    ∷ otherwise (say role.Answer ∷ pose ∷ [])
 
 abbrev pub after_reply : CaveView → Question → Answer → Scene → Scene
 after_reply cave q answer p =

@@ -34,12 +34,16 @@ after_object_shown cave x p = (by_table table.ObjectShown shown_rows (deed cave 
 abbrev pub after_all_shown : CaveView → Scene → Scene
 after_all_shown cave p = for_each_from 1 LAST_OBJECT (after_object_shown cave) p
 
+module _ {C : Type 0} where
+  abbrev pub show_all : Effect C
+  show_all d = follow after_all_shown d
+
 -- in a closed cave all that is in the hands shows itself, the oyster first what is written under it
 unfoldable pub hands_rows : List (Row (Unit {0}) (Unit {0}))
 hands_rows =
     plain_row (cave_closed ∷ hides (the name.Oyster) ∷ [])
-    (look (the name.Oyster) OYSTER_WRITTEN_ON ∷ follow after_all_shown ∷ [])
-    ∷ plain_row (cave_closed ∷ []) (follow after_all_shown ∷ [])
+    (look (the name.Oyster) OYSTER_WRITTEN_ON ∷ show_all ∷ [])
+    ∷ plain_row (cave_closed ∷ []) (show_all ∷ [])
     ∷ []
 
 -- after a question or the end of the game nothing more is done

@@ -141,9 +141,12 @@ abbrev pub acts_alone : Deed Phrase → Act Understood
 acts_alone d = asks_for (Request.Act (number d) 0 d.about.word.word) d
 
 -- the verb is done to the object, if there is one; without a verb the player is asked what to do
+abbrev pub act_or_ask : Option ℕ → ℕ → List ℕ → Request
+act_or_ask (Some v) x word = Request.Act v x word
+act_or_ask None x word = Request.WhatToDo word
+
 abbrev pub acts_by : Option ℕ → Deed Phrase → Act Understood
-acts_by (Some v) d = asks_for (Request.Act v d.about.half.object d.about.word.word) d
-acts_by None d = asks_for (Request.WhatToDo d.about.word.word) d
+acts_by v d = asks_for (act_or_ask v d.about.half.object d.about.word.word) d
 
 abbrev pub acts_by_verb : Deed Phrase → Act Understood
 acts_by_verb d = acts_by d.about.half.verb d

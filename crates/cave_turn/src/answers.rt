@@ -1,14 +1,11 @@
-ghost use Rattle.std.specs.Prelude.{◌≡◌, ◌+◌, ◌<◌, ◌≤◌, [], pos};
+ghost use Rattle.std.specs.Prelude.{◌≡◌, ◌+◌, ◌<◌, ◌≤◌, []};
 ghost use Rattle.arrayvec.specs.ArrayVec.{array_vec_len};
 ghost use Rattle.turn_scene.specs.Bounds.{GoesOnSaying, HasRoom, MovesOnSaying, parts_of_arrival};
 ghost use Rattle.turn_scene.specs.Bounds.{parts_of_end, parts_of_finish, parts_of_question};
 ghost use Rattle.turn_scene.specs.Bounds.{parts_of_answer};
 ghost use Rattle.turn_scene.specs.Scene.{scene_of, cave_of};
-ghost use Rattle.cave_world.specs.State as defined_state;
 ghost use Rattle.turn_ends.specs.Questions.{is_dragon};
 ghost use Rattle.turn_scene.specs.Rows.{Does};
-ghost use Rattle.turn_scene.specs.Effects.{with_charge};
-ghost use Rattle.cave_turn.specs.Answers as defined;
 ghost use Rattle.cave_turn.specs.Answers.{answer_of, answer_in, quit, after_yes, after_no};
 ghost use Rattle.cave_turn.specs.Answers.{after_reply, is_of_hint, after_end_of_answer};
 ghost use Rattle.cave_turn.specs.Answers.{after_answer, answers, without_question, is_yes};
@@ -22,7 +19,7 @@ use cave_world::{
 };
 use data_rows::Role;
 use turn_clocks::{give_hint, price};
-use turn_ends::{end, question_row, tell_question};
+use turn_ends::{end_as, pose, question_row};
 use turn_moves::arrive;
 use turn_scene::{Rules, Scene, rows, start_place};
 
@@ -87,15 +84,6 @@ pub fn answer_in(rules: &Rules<'_>, line: &[u8]) -> Answer
     }
 }
 
-/// The instructions count as a hint, which costs points, and the lamp burns 1,000 turns.
-fn instruct(state: &mut State)
-    ensures { state.new ≡ with_charge (pos defined.INSTRUCTED_CHARGE)
-        (defined_state.with_hint_taken defined_state.INSTRUCTIONS_HINT state.old) }
-{
-    state.take_hint(HintNumber::new(INSTRUCTIONS_HINT));
-    state.lamp.charge = Charge::new(INSTRUCTED_CHARGE);
-}
-
 /// Answers the question.
 pub fn close_question(state: &mut State)
     ensures { state.new ≡ without_question state.old }
@@ -109,11 +97,11 @@ fn quit<N: RowNotes>(rules: &Rules<'_>, question: &Question, scene: &mut Scene<'
     ensures rows { Does N.rows quit (1 + parts_of_end) rules.now question.now scene.old scene.new }
 {
     scene.say(Role::Ok);
-    end(rules, Ending::Quit, scene);
+    end_as(rules, Ending::Quit, scene);
 }
 
 #[tactic(auto, unfolding(crate::specs::Answers::give_instructions))]
-fn say_yes<N: RowNotes>(rules: &Rules<'_>, question: &Question, scene: &mut Scene<'_, N>)
+fn do_yes<N: RowNotes>(rules: &Rules<'_>, question: &Question, scene: &mut Scene<'_, N>)
     requires { HasRoom (parts_of_arrival scene.old.left + 1) scene.old }
     ensures scene { scene_of N.rows scene.new
         ≡ after_yes (cave_of rules.now) question.now (scene_of N.rows scene.old) }
@@ -123,7 +111,8 @@ fn say_yes<N: RowNotes>(rules: &Rules<'_>, question: &Question, scene: &mut Scen
     match question {
         Question::Welcome => {
             scene.say(Role::Instructions);
-            instruct(scene.state);
+            scene.state.take_hint(HintNumber::new(INSTRUCTIONS_HINT));
+            scene.state.lamp.charge = Charge::new(INSTRUCTED_CHARGE);
             arrive(rules, start_place(rules.cave), scene)
         }
         Question::Quit | Question::ScoreQuit => quit(rules, question, scene),
@@ -138,7 +127,7 @@ fn say_yes<N: RowNotes>(rules: &Rules<'_>, question: &Question, scene: &mut Scen
     }
 }
 
-fn say_no<N: RowNotes>(rules: &Rules<'_>, question: &Question, scene: &mut Scene<'_, N>)
+fn do_no<N: RowNotes>(rules: &Rules<'_>, question: &Question, scene: &mut Scene<'_, N>)
     requires { HasRoom (parts_of_arrival scene.old.left + 1) scene.old }
     ensures scene { scene_of N.rows scene.new
         ≡ after_no (cave_of rules.now) question.now (scene_of N.rows scene.old) }
@@ -172,15 +161,15 @@ fn take_reply<N: RowNotes>(
     rows! { scene, Table::Replies;
         is_yes(answer) => {
             close_question(scene.state);
-            say_yes(rules, question, scene);
+            do_yes(rules, question, scene);
         };
         matches!(answer, Answer::No) => {
             close_question(scene.state);
-            say_no(rules, question, scene);
+            do_no(rules, question, scene);
         };
         otherwise => {
             scene.say(Role::Answer);
-            tell_question(rules, question, scene);
+            pose(rules, question, scene);
         };
     }
 }

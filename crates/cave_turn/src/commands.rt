@@ -11,7 +11,7 @@ ghost use Rattle.cave_turn.specs.Commands.{after_next, followed, keep_half_comma
 ghost use Rattle.cave_turn.specs.Commands.{do_request, after_remembering, after_keeping};
 ghost use Rattle.cave_turn.specs.Commands.{after_understood, after_words, after_unread};
 ghost use Rattle.cave_turn.specs.Commands.{after_clocks, after_timed_words, after_command};
-ghost use Rattle.cave_turn.specs.Commands.{do_action, verb_that_asks, is_what_to_do, is_unknown};
+ghost use Rattle.cave_turn.specs.Commands.{do_action, verb_that_asks};
 ghost use Rattle.cave_verbs.specs.Verbs.{verb_of};
 ghost use Rattle.turn_scene.specs.Rows.{act_of, deed, Does, by_table};
 ghost use Rattle.cave_world.specs.declared.tables.Table.TheVariants as table;
@@ -24,7 +24,7 @@ use cave_words::{Named, Word, Words};
 use cave_world::{Ending, Knife, Magic, Out, Part, RowNotes, State, Table, WordLine};
 use data_rows::Role;
 use turn_clocks::{Clocks, run_clocks};
-use turn_ends::{ask, end};
+use turn_ends::{ask, end_as};
 use turn_moves::{arrive, describe_here, journey_by_request};
 use turn_scene::{Rules, Scene, rows};
 use world_objects::{Object, Place};
@@ -135,7 +135,7 @@ fn do_next<N: RowNotes>(rules: &Rules<'_>, next: &Next, scene: &mut Scene<'_, N>
         Next::Describe => describe_here(rules, scene),
         Next::Arrive(place) => arrive(rules, *place, scene),
         Next::Ask(question) => ask(rules, question, scene),
-        Next::End(ending) => end(rules, *ending, scene),
+        Next::End(ending) => end_as(rules, *ending, scene),
     }
 }
 
@@ -217,18 +217,6 @@ fn verb_that_asks(request: &Request, next: &Next) -> Option<u16>
     }
 }
 
-fn is_what_to_do(request: &Request) -> bool
-    ensures { result ≡ is_what_to_do request.now }
-{
-    matches!(request, Request::WhatToDo(_))
-}
-
-fn is_unknown(request: &Request) -> bool
-    ensures { result ≡ is_unknown request.now }
-{
-    matches!(request, Request::Unknown)
-}
-
 /// What is kept for the next command: the verb that asks for its object, or what was said so far.
 #[tactic(auto, unfolding(crate::specs::Commands::keep_half_command))]
 fn keep_half_command<N: RowNotes>(
@@ -242,14 +230,14 @@ fn keep_half_command<N: RowNotes>(
     ensures says { GoesOnSaying 0 scene.old scene.new }
 {
     let verb = verb_that_asks(&understood.request, next);
-    let just_verb = HalfCommand {
+    let verb_alone = HalfCommand {
         verb,
         object: Object::none(),
     };
     rows! { scene, Table::HalfCommand, None;
-        verb.is_some() => {} -> Some(just_verb);
-        is_what_to_do(&understood.request) => {} -> Some(understood.half);
-        is_unknown(&understood.request) => {} -> Some(understood.half);
+        verb.is_some() => {} -> Some(verb_alone);
+        matches!(understood.request, Request::WhatToDo(_)) => {} -> Some(understood.half);
+        matches!(understood.request, Request::Unknown) => {} -> Some(understood.half);
         otherwise => {};
     }
 }
@@ -324,7 +312,7 @@ fn go_on_after_clocks<N: RowNotes>(
     match clocks {
         Clocks::GoOn => do_words(rules, words, scene),
         Clocks::GaveUp => {
-            end(rules, Ending::Quit, scene);
+            end_as(rules, Ending::Quit, scene);
             leave_unread(scene);
         }
         Clocks::Closed(place) => {

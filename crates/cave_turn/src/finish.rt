@@ -38,7 +38,7 @@ fn show_hands<N: RowNotes>(rules: &Rules<'_>, scene: &mut Scene<'_, N>)
 {
     let is_closed = scene.state.closing.is_closed;
     rows! { scene, Table::Hands;
-        is_closed && is_hidden_in_hands(&scene.state.objects, rules.thing(Named::Oyster)) => {
+        is_closed && hides(&scene.state.objects, rules.thing(Named::Oyster)) => {
             scene.look(rules.thing(Named::Oyster), OYSTER_WRITTEN_ON);
             show_all(rules, scene);
         };
@@ -62,7 +62,7 @@ pub fn end_turn<N: RowNotes>(rules: &Rules<'_>, scene: &mut Scene<'_, N>)
 }
 
 /// Whether an object is in the hands and hasn't shown yet what it is.
-fn is_hidden_in_hands(objects: &Objects, object: Object) -> bool
+fn hides(objects: &Objects, object: Object) -> bool
     ensures { result ≡ is_hidden_in_hands objects.now object }
 {
     objects.is_in_hands(object) && objects.prop(object).value() < 0
@@ -76,7 +76,7 @@ fn show_object<N: RowNotes>(rules: &Rules<'_>, object: Object, scene: &mut Scene
     ensures says { GoesOnSaying 0 scene.old scene.new }
 {
     rows! { scene, Table::ObjectShown;
-        is_hidden_in_hands(&scene.state.objects, object) => {
+        hides(&scene.state.objects, object) => {
             let prop = scene.state.objects.prop(object).value();
             scene.set_prop(object, UNSEEN - prop);
         };

@@ -1,15 +1,18 @@
-ghost use Rattle.std.specs.Prelude.{◌≡◌, ◌==◌, ◌||◌, Some, None};
+ghost use Rattle.std.specs.Prelude.{◌≡◌, ◌==◌, Some, None};
 ghost use Rattle.cave_turn.specs.declared.request.SaidWord.{SaidWord};
 ghost use Rattle.turn_scene.specs.Scene.{cave_of, scene_of};
 ghost use Rattle.turn_scene.specs.Bounds.{GoesOnSaying};
-ghost use Rattle.cave_world.specs.declared.motion.Motion.TheVariants as motion_is;
 ghost use Rattle.cave_world.specs.Motions.{motion_number};
+ghost use Rattle.cave_world.specs.declared.part.Part.TheVariants as part;
+ghost use Rattle.cave_verbs.specs.Verbs.{verb_number};
+ghost use Rattle.cave_turn.specs.declared.request.Request.TheVariants as request_is;
 ghost use Rattle.turn_scene.specs.Rows.{deed, PlaysBy, act_of};
 ghost use Rattle.cave_turn.specs.Request.{half_command_of, phrase, said_word, by_object_alone};
 ghost use Rattle.cave_turn.specs.Request.{word_alone, word_aloud, by_object_before, word_before};
 ghost use Rattle.cave_turn.specs.Request.{object_alone, object_before, is_of, number_of};
 ghost use Rattle.cave_world.specs.Called.{or_no_object};
 ghost use Rattle.cave_turn.specs.Request.{pours_over, pour_in, word_entered, two_words, read_words};
+ghost use Rattle.cave_turn.specs.Request.{act_or_ask};
 
 use crate::object_words::{NamedObject, ObjectWord, is_verb_of, object_word};
 use cave_verbs::Verb;
@@ -70,25 +73,31 @@ impl HalfCommand {
         }
     }
 
-    fn with_verb(self, verb: Option<u16>) -> HalfCommand
-        ensures { result ≡ record self { verb = verb } }
+    /// The verb that was said before is forgotten.
+    fn forget_verb(self) -> HalfCommand
+        ensures { result ≡ record self { verb = None } }
+    {
+        HalfCommand { verb: None, ..self }
+    }
+
+    /// A word is the verb.
+    fn take_verb(self, number: u16) -> HalfCommand
+        ensures { result ≡ record self { verb = Some number } }
     {
         HalfCommand {
-            verb,
-            object: self.object,
+            verb: Some(number),
+            ..self
         }
     }
 
-    fn with_object(self, object: Object) -> HalfCommand
+    /// An object is that of the command.
+    fn take_object(self, object: Object) -> HalfCommand
         ensures { result ≡ record self { object = object } }
     {
-        HalfCommand {
-            verb: self.verb,
-            object,
-        }
+        HalfCommand { object, ..self }
     }
 
-    fn asks(self, request: Request) -> Understood
+    fn asks_for(self, request: Request) -> Understood
         ensures { result ≡ record { half = self; request = request } }
     {
         Understood {
@@ -96,11 +105,42 @@ impl HalfCommand {
             request,
         }
     }
+
+    fn travels(self, motion: u16) -> Understood
+        ensures { result ≡ record { half = self; request = request_is.Motion motion } }
+    {
+        self.asks_for(Request::Motion(motion))
+    }
+
+    fn tells_message(self, number: u16) -> Understood
+        ensures { result ≡ record { half = self; request = request_is.Tell (part.Message number) } }
+    {
+        self.asks_for(Request::Tell(Part::Message(number)))
+    }
+
+    fn says(self, role: Role) -> Understood
+        ensures { result ≡ record { half = self; request = request_is.Tell (part.Role role) } }
+    {
+        self.asks_for(Request::Tell(Part::Role(role)))
+    }
+
+    /// The verb is done to the object, if there is one; without a verb the player is asked for it.
+    fn acts_by_verb(self, word: Word) -> Understood
+        ensures { result ≡ record {
+          half = self;
+          request = act_or_ask self.verb self.object word;
+        } }
+    {
+        match self.verb {
+            Some(verb) => self.asks_for(Request::Act(verb, self.object, word)),
+            None => self.asks_for(Request::WhatToDo(word)),
+        }
+    }
 }
 
 impl SaidWord {
     /// Whether the word is of a class.
-    fn is_of(&self, class: Class) -> bool
+    fn means(&self, class: Class) -> bool
         ensures { result ≡ is_of class self.now }
     {
         match self.meaning {
@@ -117,6 +157,18 @@ impl SaidWord {
             Some(meaning) => meaning.number,
             None => 0,
         }
+    }
+
+    fn of_motion(&self, motion: Motion) -> bool
+        ensures { result ≡ (number_of self.now == motion_number motion) }
+    {
+        self.number() == motion.number()
+    }
+
+    fn of_action(&self, verb: Verb) -> bool
+        ensures { result ≡ (number_of self.now == verb_number verb) }
+    {
+        self.number() == verb.number()
     }
 
     /// The object that the word names, with the verb that was said before.
@@ -148,11 +200,11 @@ pub fn read_words<N: RowNotes>(
     ensures says { GoesOnSaying 0 scene.old scene.new }
 {
     let half = HalfCommand::of(scene.state.talk);
-    let is_saying = is_verb_of(Verb::Say, half.verb);
+    let after_say = is_verb_of(Verb::Say, half.verb);
     rows! { scene, Table::Words;
-        is_saying && next.is_some()
-            => {} -> two_words(rules, half.with_verb(None), word, next.unwrap_or(word), scene);
-        is_saying => {} -> word_aloud(rules, half, &said_word(rules, word), scene);
+        after_say && next.is_some()
+            => {} -> two_words(rules, half.forget_verb(), word, next.unwrap_or(word), scene);
+        after_say => {} -> word_aloud(rules, half, &said_word(rules, word), scene);
         next.is_some() => {} -> two_words(rules, half, word, next.unwrap_or(word), scene);
         otherwise => {} -> word_alone(rules, half, &said_word(rules, word), scene);
     }
@@ -218,10 +270,10 @@ fn word_entered<N: RowNotes>(
     ensures says { GoesOnSaying 0 scene.old scene.new }
 {
     rows! { scene, Table::WordEntered;
-        let is_water = next.is(b"STREA") || next.is(b"WATER");
-        is_water && is_liquid(rules.thing(Named::Water), lake(rules, scene.state))
-            => {} -> half.asks(Request::Tell(Part::Role(Role::FeetWet)));
-        is_water => {} -> half.asks(Request::Tell(Part::Role(Role::Where)));
+        let into_water = next.is(b"STREA") || next.is(b"WATER");
+        into_water && is_liquid(rules.thing(Named::Water), lake(rules, scene.state))
+            => {} -> half.says(Role::FeetWet);
+        into_water => {} -> half.says(Role::Where);
         otherwise => {} -> word_alone(rules, half, &said_word(rules, next), scene);
     }
 }
@@ -247,15 +299,12 @@ fn by_object_alone<N: RowNotes>(
         (deed (cave_of rules.now) (phrase half word.now None) (scene_of N.rows scene.now)) }
 {
     match found {
-        ObjectWord::Is(object) => match half.verb {
-            Some(verb) => half
-                .with_object(object)
-                .asks(Request::Act(verb, object, word.word)),
-            None => half.with_object(object).asks(Request::WhatToDo(word.word)),
-        },
-        ObjectWord::Leads(motion) => half.asks(Request::Motion(motion)),
-        ObjectWord::Knives => half.asks(Request::Knives),
-        ObjectWord::Unseen => half.asks(Request::Tell(Part::Word(WordLine::NotSeen, word.word))),
+        ObjectWord::Is(object) => half.take_object(object).acts_by_verb(word.word),
+        ObjectWord::Leads(motion) => half.travels(motion),
+        ObjectWord::Knives => half.asks_for(Request::Knives),
+        ObjectWord::Unseen => {
+            half.asks_for(Request::Tell(Part::Word(WordLine::NotSeen, word.word)))
+        }
     }
 }
 
@@ -286,14 +335,13 @@ fn word_alone<N: RowNotes>(
 {
     let number = word.number();
     rows! { scene, Table::WordAlone;
-        word.meaning.is_none() => {} -> half.asks(Request::Unknown);
-        word.is_of(Class::Motion) => {} -> half.asks(Request::Motion(number));
-        word.is_of(Class::Special) => {} -> half.asks(Request::Tell(Part::Message(number)));
-        word.is_of(Class::Object) => {} -> object_alone(rules, half, word, scene);
-        word.is_of(Class::Action) && number == Verb::Say.number()
-            => {} -> half.asks(Request::Act(number, Object::none(), word.word));
-        let act = Request::Act(number, half.object, word.word);
-        otherwise => {} -> half.with_verb(Some(number)).asks(act);
+        word.meaning.is_none() => {} -> half.asks_for(Request::Unknown);
+        word.means(Class::Motion) => {} -> half.travels(number);
+        word.means(Class::Special) => {} -> half.tells_message(number);
+        word.means(Class::Object) => {} -> object_alone(rules, half, word, scene);
+        word.means(Class::Action) && word.of_action(Verb::Say)
+            => {} -> half.asks_for(Request::Act(number, Object::none(), word.word));
+        otherwise => {} -> half.take_verb(number).acts_by_verb(word.word);
     }
 }
 
@@ -310,7 +358,7 @@ fn by_object_before<N: RowNotes>(
         (phrase half word.now (Some next.now)) scene.old scene.new result }
 {
     match found {
-        ObjectWord::Is(object) => word_alone(rules, half.with_object(object), next, scene),
+        ObjectWord::Is(object) => word_alone(rules, half.take_object(object), next, scene),
         ObjectWord::Leads(_) | ObjectWord::Knives | ObjectWord::Unseen => {
             by_object_alone(rules, found, half, word, scene)
         }
@@ -345,23 +393,14 @@ fn word_before<N: RowNotes>(
 {
     let number = word.number();
     rows! { scene, Table::WordBefore;
-        word.meaning.is_none() => {} -> half.asks(Request::Unknown);
-        word.is_of(Class::Motion) => {} -> half.asks(Request::Motion(number));
-        word.is_of(Class::Special) => {} -> half.asks(Request::Tell(Part::Message(number)));
-        word.is_of(Class::Object) => {} -> object_before(rules, half, word, next, scene);
-        word.is_of(Class::Action) && number == Verb::Say.number()
+        word.meaning.is_none() => {} -> half.asks_for(Request::Unknown);
+        word.means(Class::Motion) => {} -> half.travels(number);
+        word.means(Class::Special) => {} -> half.tells_message(number);
+        word.means(Class::Object) => {} -> object_before(rules, half, word, next, scene);
+        word.means(Class::Action) && word.of_action(Verb::Say)
             => {} -> word_aloud(rules, half, next, scene);
-        otherwise => {} -> word_alone(rules, half.with_verb(Some(number)), next, scene);
+        otherwise => {} -> word_alone(rules, half.take_verb(number), next, scene);
     }
-}
-
-/// Whether a motion is done if it is said aloud.
-fn is_magic_motion(number: u16) -> bool
-    ensures { result ≡ (number == motion_number motion_is.Xyzzy
-        || (number == motion_number motion_is.Plugh || number == motion_number motion_is.Plover)) }
-{
-    number == Motion::Xyzzy.number()
-        || (number == Motion::Plugh.number() || number == Motion::Plover.number())
 }
 
 /// What is done if a word is said aloud.
@@ -376,10 +415,11 @@ fn word_aloud<N: RowNotes>(
         scene.new result }
 {
     rows! { scene, Table::WordAloud;
-        word.is_of(Class::Motion) && is_magic_motion(word.number())
+        word.means(Class::Motion) && (word.of_motion(Motion::Xyzzy)
+            || (word.of_motion(Motion::Plugh) || word.of_motion(Motion::Plover)))
             => {} -> word_alone(rules, half, word, scene);
-        word.is_of(Class::Action) && word.number() == Verb::Foo.number()
+        word.means(Class::Action) && word.of_action(Verb::Foo)
             => {} -> word_alone(rules, half, word, scene);
-        otherwise => {} -> half.asks(Request::Tell(Part::Word(WordLine::Okay, word.word)));
+        otherwise => {} -> half.asks_for(Request::Tell(Part::Word(WordLine::Okay, word.word)));
     }
 }

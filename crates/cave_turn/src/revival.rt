@@ -14,7 +14,7 @@ ghost use Rattle.turn_scene.specs.Effects.{for_each_down_from};
 use cave_words::Named;
 use cave_world::{Ending, LIVES, RowNotes, Table};
 use data_rows::Role;
-use turn_ends::{count_death, end};
+use turn_ends::{count_death, end_as};
 use turn_moves::describe_here;
 use turn_scene::props::LAMP_OFF;
 use turn_scene::{Rules, Scene, building_place, is_carried, rows, start_place};
@@ -48,7 +48,7 @@ fn decide_revival<N: RowNotes>(rules: &Rules<'_>, scene: &mut Scene<'_, N>)
     ensures says { MovesOnSaying (parts_of_arrival scene.old.left) scene.old scene.new }
 {
     rows! { scene, Table::Revival;
-        LIVES <= scene.state.tallies.deaths.number() => { end(rules, Ending::Killed, scene); };
+        LIVES <= scene.state.tallies.deaths.number() => { end_as(rules, Ending::Killed, scene); };
         otherwise => { revive(rules, scene); };
     }
 }
@@ -108,5 +108,5 @@ pub fn bury<N: RowNotes>(rules: &Rules<'_>, scene: &mut Scene<'_, N>)
 {
     scene.say(Role::Ok);
     count_death(scene.state);
-    end(rules, Ending::Killed, scene);
+    end_as(rules, Ending::Killed, scene);
 }

@@ -9,7 +9,7 @@ use Rattle.turn_scene.specs.Props.{AXE_FREE, BEAR_DEAD, BEAR_FED, BEAR_WILD, BIR
 use Rattle.turn_scene.specs.Props.{DRAGON_ALIVE}
 use Rattle.turn_scene.specs.Parts.{with_dwarves}
 use Rattle.turn_scene.specs.Effects.{change, say, destroy, loosen, set_prop, lose_one}
-use Rattle.turn_scene.specs.Rows.{Test, row_then, otherwise_then}
+use Rattle.turn_scene.specs.Rows.{Test, Effect, row_then, otherwise_then}
 use Rattle.turn_scene.specs.Tests.{no, either, near, prop, other_prop, cave_closed}
 use Rattle.cave_verbs.specs.Effects.{default, ask_what}
 use Rattle.cave_verbs.specs.Rows.{VerbRow, row, keeps, does, stays, x, is}
@@ -37,6 +37,9 @@ abbrev pub with_more_anger : State → State
 with_more_anger s =
     with_dwarves (record (s.dwarves) { anger = min (s.dwarves.anger + 1) MAX_ANGER }) s
 
+abbrev pub anger_dwarves : Effect Task
+anger_dwarves = change with_more_anger
+
 unfoldable pub feed_rows : List VerbRow
 feed_rows =
     row (is Named.Bird ∷ []) (say role.BirdFeed ∷ [])
@@ -45,7 +48,7 @@ feed_rows =
     ∷ row (is Named.Dragon ∷ other_prop x DRAGON_ALIVE ∷ []) (say role.Ridiculous ∷ [])
     ∷ row (either (is Named.Snake) (is Named.Dragon) ∷ []) (say role.NotHungry ∷ [])
     ∷ row (is Named.Troll ∷ []) (say role.TrollFeed ∷ [])
-    ∷ row (is Named.Dwarf ∷ near food ∷ []) (change with_more_anger ∷ say role.DwarfFeed ∷ [])
+    ∷ row (is Named.Dwarf ∷ near food ∷ []) (anger_dwarves ∷ say role.DwarfFeed ∷ [])
     ∷ row (is Named.Dwarf ∷ []) (default ∷ [])
     ∷ row (is Named.Bear ∷ near food ∷ [])
     (destroy food ∷ set_prop x BEAR_FED ∷ loosen axe ∷ set_prop axe AXE_FREE ∷ say role.BearFed

@@ -60,6 +60,9 @@ eggs_rows =
     ∷ plain_row (near eggs ∷ []) (look eggs EGGS_VANISHING ∷ [])
     ∷ otherwise (look eggs EGGS_ELSEWHERE ∷ [])
 
+abbrev pub send_eggs_home : List (Effect Task)
+send_eggs_home = by_table table.Eggs eggs_rows ∷ move eggs (home_of eggs) ∷ []
+
 unfoldable pub bare_foo_rows : List VerbRow
 bare_foo_rows =
     row (either is_plain is_out_of_turn ∷ is_unbegun ∷ []) (say role.Magic ∷ [])
@@ -69,7 +72,5 @@ bare_foo_rows =
     ∷ row (at_home eggs ∷ []) (begin_anew ∷ say role.Magic ∷ [])
     ∷ row (carried eggs ∷ player_at_home eggs ∷ []) (begin_anew ∷ say role.Magic ∷ [])
     ∷ row (nowhere eggs ∷ nowhere troll ∷ prop troll TROLL_CALM ∷ [])
-    (begin_anew ∷ set_prop troll TROLL_RETURNING ∷ by_table table.Eggs eggs_rows
-    ∷ move eggs (home_of eggs) ∷ [])
-    ∷ otherwise_then
-    (begin_anew ∷ by_table table.Eggs eggs_rows ∷ move eggs (home_of eggs) ∷ []) stays
+    (begin_anew ∷ set_prop troll TROLL_RETURNING ∷ send_eggs_home)
+    ∷ otherwise_then (begin_anew ∷ send_eggs_home) stays

@@ -49,8 +49,8 @@ abbrev pub halve : Thing Task → Thing Task → Effect Task
 halve t of d = set_prop t (int_div (prop_of d.scene.state.objects (of d)) (pos 2)) d
 
 -- the plant and its upper part grow with the water
-abbrev pub plant_watered : List (Effect Task)
-plant_watered =
+abbrev pub water_plant : List (Effect Task)
+water_plant =
     look_above plant ∷ grow plant
     ∷ halve second_plant plant ∷ []
 
@@ -67,7 +67,7 @@ pour_rows =
     ∷ row (is_here door ∷ [])
     (empty_bottle ∷ set_prop door DOOR_RUSTY ∷ say role.DoorWet ∷ [])
     ∷ row_then (is_here plant ∷ pours Named.Water ∷ [])
-    (empty_bottle ∷ plant_watered) again
+    (empty_bottle ∷ water_plant) again
     ∷ row (is_here plant ∷ []) (empty_bottle ∷ say role.PlantOil ∷ [])
     ∷ otherwise_then (empty_bottle ∷ say role.PourGround ∷ []) stays
 

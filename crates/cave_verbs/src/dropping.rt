@@ -54,12 +54,9 @@ fn drop_held<N: RowNotes>(rules: &Rules<'_>, task: Task, scene: &mut Scene<'_, N
             => say(Role::BirdSnake), say(Role::Disturbed) -> Next::End(Ending::Killed);
         is_bird_by_snake => say(Role::BirdSnake), destroy(rules.thing(Named::Snake)),
             set_prop(rules.thing(Named::Snake), SNAKE_GONE), put(rules, x);
-        rules.is(x, Named::Coins) && is_near(rules, scene.state, rules.thing(Named::Vending)) => {
-            let batteries = rules.thing(Named::Batteries);
-            scene.destroy(x);
-            scene.bring(batteries);
-            scene.look(batteries, BATTERIES_FRESH);
-        };
+        rules.is(x, Named::Coins) && is_near(rules, scene.state, rules.thing(Named::Vending))
+            => destroy(x), bring(rules.thing(Named::Batteries)),
+            look(rules.thing(Named::Batteries), BATTERIES_FRESH);
         let dragon = rules.thing(Named::Dragon);
         is_bird && scene.state.at(dragon) && has_prop(scene.state, dragon, DRAGON_ALIVE)
             => say(Role::BirdDragon), destroy(x), set_prop(x, BIRD_FREE), lose_to_snake(rules);

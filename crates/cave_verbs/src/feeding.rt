@@ -3,8 +3,9 @@ ghost use Rattle.turn_scene.specs.Bounds.{HasRoom, parts_of_row};
 ghost use Rattle.cave_verbs.specs.Rows.{ByRows, DoneByRows, rank_of};
 ghost use Rattle.turn_scene.specs.Scene.{cave_of};
 ghost use Rattle.turn_scene.specs.Rows.{noted};
+ghost use Rattle.turn_scene.specs.Effects.{Changes};
 ghost use Rattle.cave_world.specs.declared.tables.Table.TheVariants as table;
-ghost use Rattle.cave_verbs.specs.Feeding.{feed_rows, bare_eat_rows, eat_rows};
+ghost use Rattle.cave_verbs.specs.Feeding.{feed_rows, bare_eat_rows, eat_rows, with_more_anger};
 
 use crate::next::{Next, VerbStep};
 use crate::task::Task;
@@ -61,6 +62,15 @@ pub fn eat<N: RowNotes>(rules: &Rules<'_>, task: Task, scene: &mut Scene<'_, N>)
     }
 }
 
+impl Task {
+    /// The dwarves are angrier by one, up to the most.
+    fn anger_dwarves<N: RowNotes>(&self, scene: &mut Scene<'_, N>)
+        ensures { Changes N.rows with_more_anger scene.old scene.new }
+    {
+        scene.state.dwarves.anger = scene.state.dwarves.anger.up();
+    }
+}
+
 /// FEED an object.
 #[tactic(auto, unfolding(crate::specs::Feeding::feed_rows))]
 pub fn feed<N: RowNotes>(rules: &Rules<'_>, task: Task, scene: &mut Scene<'_, N>) -> Next
@@ -80,20 +90,13 @@ pub fn feed<N: RowNotes>(rules: &Rules<'_>, task: Task, scene: &mut Scene<'_, N>
             => say(Role::Ridiculous);
         rules.is(x, Named::Snake) || rules.is(x, Named::Dragon) => say(Role::NotHungry);
         rules.is(x, Named::Troll) => say(Role::TrollFeed);
-        rules.is(x, Named::Dwarf) && is_near(rules, scene.state, food) => {
-            scene.state.dwarves.anger = scene.state.dwarves.anger.up();
-            scene.say(Role::DwarfFeed);
-        };
+        rules.is(x, Named::Dwarf) && is_near(rules, scene.state, food)
+            => task.anger_dwarves(), say(Role::DwarfFeed);
         rules.is(x, Named::Dwarf) => task.default(rules);
         let is_bear = rules.is(x, Named::Bear);
-        is_bear && is_near(rules, scene.state, food) => {
-            let axe = rules.thing(Named::Axe);
-            scene.destroy(food);
-            scene.set_prop(x, BEAR_FED);
-            scene.loosen(axe);
-            scene.set_prop(axe, AXE_FREE);
-            scene.say(Role::BearFed);
-        };
+        is_bear && is_near(rules, scene.state, food)
+            => destroy(food), set_prop(x, BEAR_FED), loosen(rules.thing(Named::Axe)),
+            set_prop(rules.thing(Named::Axe), AXE_FREE), say(Role::BearFed);
         is_bear && has_prop(scene.state, x, BEAR_WILD) => say(Role::NotHungry);
         is_bear && has_prop(scene.state, x, BEAR_DEAD) => say(Role::Ridiculous);
         is_bear => task.default(rules);

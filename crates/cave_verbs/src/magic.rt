@@ -1,14 +1,12 @@
-ghost use Rattle.std.specs.Prelude.{◌≡◌, ◌<◌, ◌-ℤ◌, not, pos, [], ◌∷◌};
+ghost use Rattle.std.specs.Prelude.{◌≡◌, ◌<◌, ◌-ℤ◌, not, pos};
 ghost use Rattle.std.specs.Ordering.{int_eq};
 ghost use Rattle.turn_scene.specs.Bounds.{HasRoom};
 ghost use Rattle.cave_verbs.specs.Rows.{DoneByRows};
-ghost use Rattle.turn_scene.specs.Rows.{Does, by_table, noted};
-ghost use Rattle.turn_scene.specs.Effects.{Changes, move};
-ghost use Rattle.turn_scene.specs.Tests.{home_of};
+ghost use Rattle.turn_scene.specs.Rows.{Does, noted};
+ghost use Rattle.turn_scene.specs.Effects.{Changes};
 ghost use Rattle.data_rows.specs.Rows.{WORDS_PER_CLASS};
 ghost use Rattle.cave_world.specs.declared.tables.Table.TheVariants as table;
-ghost use Rattle.cave_verbs.specs.Magic.{bare_foo_rows, eggs_rows, with_magic};
-ghost use Rattle.cave_verbs.specs.Things.{eggs};
+ghost use Rattle.cave_verbs.specs.Magic.{bare_foo_rows, send_eggs_home, with_magic};
 
 use crate::next::Next;
 use crate::task::Task;
@@ -82,8 +80,7 @@ impl Task {
     #[tactic(auto, unfolding(crate::specs::Magic::eggs_rows))]
     fn send_eggs_home<N: RowNotes>(self, rules: &Rules<'_>, scene: &mut Scene<'_, N>)
         requires { HasRoom 1 scene.old }
-        ensures scene { Does N.rows (by_table table.Eggs eggs_rows ∷ move eggs (home_of eggs) ∷ [])
-            1 rules.now self scene.old scene.new }
+        ensures scene { Does N.rows send_eggs_home 1 rules.now self scene.old scene.new }
     {
         let eggs = rules.thing(Named::Eggs);
         rows! { scene, Table::Eggs;

@@ -1,10 +1,10 @@
-ghost use Rattle.std.specs.Prelude.{◌≡◌, ◌≤◌};
+ghost use Rattle.std.specs.Prelude.{◌≡◌, ◌≤◌, [], ◌∷◌};
 ghost use Rattle.turn_scene.specs.Bounds.{HasRoom, parts_of_row};
 ghost use Rattle.turn_scene.specs.Scene.{scene_of, cave_of};
 ghost use Rattle.cave_verbs.specs.Rows.{ByRows, DoneByRows, rank_of};
-ghost use Rattle.turn_scene.specs.Rows.{deed, noted};
+ghost use Rattle.turn_scene.specs.Rows.{Does, deed, noted};
 ghost use Rattle.cave_world.specs.declared.tables.Table.TheVariants as table;
-ghost use Rattle.cave_verbs.specs.Reading.{papers, bare_read_rows, read_rows};
+ghost use Rattle.cave_verbs.specs.Reading.{papers, not_seen, bare_read_rows, read_rows};
 
 use crate::choice::{Meant, add_meant, only};
 use crate::next::{Next, VerbStep};
@@ -44,13 +44,24 @@ pub fn read_what_is_here<N: RowNotes>(
     ensures ranks { rank_of (cave_of rules.now) result ≤ 1 }
 {
     rows! { scene, Table::BareRead, VerbStep::Done(Next::Keep);
-        scene.state.dark(rules.cave, rules.thing(Named::Lamp)) => task.ask_what(rules);
+        let in_the_dark = scene.state.dark(rules.cave, rules.thing(Named::Lamp));
+        in_the_dark => task.ask_what(rules);
         let oyster = rules.thing(Named::Oyster);
         scene.state.closing.is_closed && is_carried(rules, scene.state, oyster)
             => {} -> VerbStep::GoOn(Verb::Read, oyster);
         let paper = only(papers(rules, &task, scene).as_slice());
         !paper.is_none() => {} -> VerbStep::GoOn(Verb::Read, paper);
         otherwise => task.ask_what(rules);
+    }
+}
+
+impl Task {
+    /// The game says that it doesn't see here what the word that was just read names.
+    fn not_seen<N: RowNotes>(self, rules: &Rules<'_>, scene: &mut Scene<'_, N>)
+        requires { HasRoom 1 scene.old }
+        ensures { Does N.rows (not_seen ∷ []) 1 rules.now self scene.old scene.new }
+    {
+        scene.tell(Part::Word(WordLine::NotSeen, self.word));
     }
 }
 
@@ -63,8 +74,8 @@ pub fn read<N: RowNotes>(rules: &Rules<'_>, task: Task, scene: &mut Scene<'_, N>
 {
     let x = task.object;
     rows! { scene, Table::Read, Next::Stay;
-        scene.state.dark(rules.cave, rules.thing(Named::Lamp))
-            => tell(Part::Word(WordLine::NotSeen, task.word));
+        let in_the_dark = scene.state.dark(rules.cave, rules.thing(Named::Lamp));
+        in_the_dark => task.not_seen(rules);
         rules.is(x, Named::Magazine) => say(Role::ReadMagazine);
         rules.is(x, Named::Tablet) => say(Role::ReadTablet);
         rules.is(x, Named::Message) => say(Role::ReadMessage);

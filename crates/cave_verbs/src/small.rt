@@ -1,4 +1,8 @@
-ghost use Rattle.turn_scene.specs.Bounds.{HasRoom, parts_of_row};
+ghost use Rattle.turn_scene.specs.Bounds.{GoesOnSaying, HasRoom, parts_of_row};
+ghost use Rattle.turn_scene.specs.Effects.{Changes};
+ghost use Rattle.turn_scene.specs.Parts.{with_objects};
+ghost use Rattle.turn_scene.specs.Scene.{after_look_at, scene_of};
+ghost use Rattle.world_objects.specs.Objects.{prop_of, with_prop};
 ghost use Rattle.cave_verbs.specs.Rows.{DoneByRows};
 ghost use Rattle.cave_verbs.specs.Small.{bare_brief_rows, blast_rows, break_rows, wake_rows};
 ghost use Rattle.cave_verbs.specs.Small.{wave_rows, rub_rows, on_rows, off_rows};
@@ -15,7 +19,7 @@ use turn_scene::props::{LAMP_OFF, UNSEEN, VASE_BROKEN, VASE_WHOLE};
 use turn_scene::{
     Rules, Scene, has_prop, has_prop_up_to, is_carried, is_near, is_place, place_named, rows,
 };
-use world_objects::Prop;
+use world_objects::{Object, Prop};
 
 /// ON, with any object.
 #[tactic(auto, unfolding(crate::specs::Small::on_rows))]
@@ -53,16 +57,29 @@ pub fn turn_off<N: RowNotes>(rules: &Rules<'_>, task: Task, scene: &mut Scene<'_
     }
 }
 
-fn flipped(prop: Prop) -> Prop
-    ensures { result ≡ pos 1 -ℤ prop }
-{
-    Prop::new(1 - prop.value())
-}
+impl Task {
+    /// The prop becomes 1 less what it was.
+    fn flip<N: RowNotes>(&self, object: Object, scene: &mut Scene<'_, N>)
+        ensures { Changes N.rows (λ s. with_objects (with_prop s.objects object
+            (pos 1 -ℤ prop_of s.objects object)) s) scene.old scene.new }
+    {
+        let prop = scene.state.objects.prop(object);
+        scene
+            .state
+            .objects
+            .set_prop(object, Prop::new(1 - prop.value()));
+    }
 
-fn text_of_flipped(prop: Prop) -> i8
-    ensures { result ≡ pos 2 -ℤ prop }
-{
-    2 - prop.value()
+    /// The text for 2 less the prop is printed.
+    fn look_at_flip<N: RowNotes>(&self, object: Object, scene: &mut Scene<'_, N>)
+        requires { HasRoom 1 scene.old }
+        ensures scene { scene_of N.rows scene.new ≡ after_look_at object
+            (pos 2 -ℤ prop_of scene.old.state.now.objects object) (scene_of N.rows scene.old) }
+        ensures says { GoesOnSaying 1 scene.old scene.new }
+    {
+        let prop = scene.state.objects.prop(object);
+        scene.look(object, 2 - prop.value());
+    }
 }
 
 /// WAVE an object.
@@ -81,12 +98,7 @@ pub fn wave<N: RowNotes>(rules: &Rules<'_>, task: Task, scene: &mut Scene<'_, N>
         let fissure = rules.thing(Named::Fissure);
         is_rod && scene.state.at(fissure)
             && is_carried(rules, scene.state, rules.thing(Named::Rod))
-            && !scene.state.closing.is_closing => {
-            let was = scene.state.objects.prop(fissure);
-            scene.state.objects.set_prop(fissure, flipped(was));
-            let prop = scene.state.objects.prop(fissure);
-            scene.look(fissure, text_of_flipped(prop));
-        };
+            && !scene.state.closing.is_closing => task.flip(fissure), task.look_at_flip(fissure);
         otherwise => task.default(rules);
     }
 }

@@ -64,15 +64,15 @@ pub fn take<N: RowNotes>(rules: &Rules<'_>, task: Task, scene: &mut Scene<'_, N>
     let bottle = rules.thing(Named::Bottle);
     rows! { scene, Table::Take, VerbStep::Done(Next::Stay);
         is_carried(rules, scene.state, x) => task.default(rules);
-        let is_fixed = is_fixed(scene.state, x);
-        is_fixed && rules.is(x, Named::Plant) && has_prop_up_to(scene.state, x, PLANT_SMALL)
+        let immovable = is_fixed(scene.state, x);
+        immovable && rules.is(x, Named::Plant) && has_prop_up_to(scene.state, x, PLANT_SMALL)
             => say(Role::PlantRoots);
-        is_fixed && rules.is(x, Named::Bear) && has_prop(scene.state, x, BEAR_FED)
+        immovable && rules.is(x, Named::Bear) && has_prop(scene.state, x, BEAR_FED)
             => say(Role::BearChained);
-        is_fixed && rules.is(x, Named::Chain)
+        immovable && rules.is(x, Named::Chain)
             && has_other_prop(scene.state, rules.thing(Named::Bear), BEAR_WILD)
             => say(Role::ChainLocked);
-        is_fixed => say(Role::Immovable);
+        immovable => say(Role::Immovable);
         is_liquid(x, liquid(rules, scene.state)) && is_near(rules, scene.state, bottle)
             => {} -> VerbStep::GoOn(Verb::Take, bottle);
         let is_liquid = rules.is(x, Named::Water) || rules.is(x, Named::Oil);
@@ -81,7 +81,8 @@ pub fn take<N: RowNotes>(rules: &Rules<'_>, task: Task, scene: &mut Scene<'_, N>
             => {} -> VerbStep::GoOn(Verb::Fill, bottle);
         has_bottle => say(Role::BottleFull);
         is_liquid => say(Role::NoBottle);
-        scene.state.holding() >= MAX_TAKEN => say(Role::TooMuch);
+        let full_hands = MAX_TAKEN <= scene.state.holding();
+        full_hands => say(Role::TooMuch);
         in VerbStep::Done(take_freely(rules, task, scene));
     }
 }

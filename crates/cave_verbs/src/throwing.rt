@@ -93,7 +93,8 @@ fn throw_axe_at_dwarf<N: RowNotes>(rules: &Rules<'_>, task: Task, scene: &mut Sc
     rows! { scene, Table::Throw, Next::Arrive(scene.state.trail.here);
         from 6;
         scene.state.stream.draw(3) == 0 => say(Role::AxeMiss), bring(x);
-        scene.state.dwarves.kills.number() == 0 => task.strike(), say(Role::AxeFirst), bring(x);
+        let is_first_kill = scene.state.dwarves.kills.number() == 0;
+        is_first_kill => task.strike(), say(Role::AxeFirst), bring(x);
         otherwise => task.strike(), say(Role::AxeKill), bring(x);
     }
 }

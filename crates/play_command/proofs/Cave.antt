@@ -1,18 +1,25 @@
 -- What the parser answers to the words, by the program's command.
-use Rattle.std.proofs.Common.{◌≡◌, ◌∙◌, List, true, Result, Ok, Err, IfOk, refl, subst}
-use Rattle.std.proofs.Common.{ap, inl, map}
-use Rattle.std.specs.Prelude.{IsErrAnd}
-use Rattle.clap.specs.Words.{App, HasMatchesOf, FailsBy, app_of, fault_of, is_simple, kind_of}
-use Rattle.clap.specs.Words.{is_simple_and_free}
+use Rattle.std.proofs.Common.{◌≡◌, ◌∙◌, List, [], true, Result, Ok, Err, IfOk, MatchResult, refl}
+use Rattle.std.proofs.Common.{ap, map, subst}
+use Rattle.clap.specs.Words.{App, HasKind, HasMatchesOf, FailsBy, app_of, fault_of, is_simple}
+use Rattle.clap.specs.Words.{is_simple_and_free, subcommand_of, subcommand_rows_of}
 use Rattle.clap.specs.Walk.{Text}
 use Rattle.clap.specs.declared.builder.command.Command.{Command}
 use Rattle.clap.specs.declared.error.Error.{Error}
-use Rattle.clap.specs.declared.error.kind.ErrorKind.TheVariants.{OutOfMemory}
 use Rattle.clap.specs.declared.parser.matches.ArgMatches.{ArgMatches}
 use Rattle.clap.proofs.OnLiterals.{clap_on_literals}
 use Rattle.play_command.specs.Asked.{check_views, cover_views, edit_views, play_views, report_views}
-use Rattle.play_command.specs.Commands.{IsCave, Names, ViewNames, cave_app}
-use Rattle.play_command.specs.Line.{IsParse, IsParseBy}
+use Rattle.play_command.specs.Commands.{ForCave, IsCave, Names, ViewNames, cave_app}
+
+-- the parser's answer to words: what they say, if nothing is wrong with them, and otherwise an
+-- error that says what is wrong, unless memory ran out
+abbrev IsParseBy : List Text → Result ArgMatches Error → App → Type 0
+IsParseBy words answer app = MatchResult answer
+    (λ matches. (fault_of app words ≡ []) × (subcommand_rows_of matches ≡ subcommand_of app words))
+    (HasKind (fault_of app words))
+
+abbrev pub IsParse : List Text → Result ArgMatches Error → Type 0
+IsParse words answer = ForCave (IsParseBy words answer)
 
 cave_is_simple : (names : ViewNames) → is_simple (cave_app names) ≡ true
 unfolding clap_on_literals
@@ -53,7 +60,7 @@ somewhere names = record {
   now = map (λ (name : Text). record { ref_ptr = (0, 0); now = name }) names;
 }
 
-abbrev some_names : ViewNames
+abbrev pub some_names : ViewNames
 some_names = record {
   check = (somewhere (map (λ view. view.0) check_views), refl);
   play = (somewhere (map (λ view. view.0) play_views), refl);
@@ -61,8 +68,3 @@ some_names = record {
   report = (somewhere (map (λ view. view.0) report_views), refl);
   cover = (somewhere (map (λ view. view.0) cover_views), refl);
 }
-
-pub out_of_memory : (words : List Text) (answer : Result ArgMatches Error)
-    → IsErrAnd answer (λ error. kind_of error ≡ OutOfMemory) → IsParse words answer
-out_of_memory words (Ok matches) memory = absurd memory
-out_of_memory words (Err error) memory = (some_names, inl memory)

@@ -16,7 +16,6 @@ use Rattle.play_command.specs.declared.line.Input.{Input}
 use Rattle.play_command.specs.declared.line.NamedFile.{NamedFile}
 use Rattle.play_command.specs.declared.commands.CommandName.{CommandName}
 use Rattle.play_command.specs.declared.line.EditAsked.{EditAsked}
-use Rattle.play_command.specs.declared.line.Editing.{Editing}
 use Rattle.play_command.specs.declared.line.EditsFrom.{EditsFrom}
 use Rattle.play_command.specs.declared.line.MapPart.{MapPart}
 use Rattle.play_command.specs.declared.line.Surroundings.{Surroundings}
@@ -101,14 +100,11 @@ files_of rows = flat_map (files_at rows) ((codes "cave", Input.Cave) ∷ (codes 
     ∷ (codes "old", Input.Log) ∷ (codes "log", Input.Log) ∷ (codes "script", Input.Script)
     ∷ (codes "new", Input.NewLog) ∷ (codes "to", Input.NewLog) ∷ (codes "known", Input.Known) ∷ [])
 
--- an edited log is written over the log
-abbrev pub is_in_place : List Row → Bool
-is_in_place rows = is_set (codes "in-place") rows
-
--- the output goes over the log, or into the file that was found for it, if one was
+-- the output goes over the log in place, or into the file that was found for it, if one was
 abbrev pub output_of : List Row → Option (List ℕ)
 output_of rows =
-    if is_in_place rows then first_of (codes "log") rows else first_of (codes "output") rows
+    if is_set (codes "in-place") rows then first_of (codes "log") rows
+    else first_of (codes "output") rows
 
 -- ---- what runs may print, by the names of views
 
@@ -190,20 +186,6 @@ abbrev pub edits_from_of : List Row → Result EditsFrom Misuse
 edits_from_of rows = edits_from (is_given (codes "script") rows)
     (is_some (all_of (codes "edit") rows)) (is_given (codes "to") rows)
 
--- how a log is edited; it is printed as a log in place, and else as was found, or as the transcript
-unfoldable pub editing_of : List Row → Result Editing Misuse
-editing_of rows = do
-  seed ← number_of NumberOption.Seed 0 rows
-  every ← number_of NumberOption.Every 50 rows
-  view ← if is_in_place rows then Ok EditView.Log else view_of edit_views EditView.Transcript rows
-  Ok (record {
-    seed = seed;
-    every = every;
-    view = view;
-    strict = is_set (codes "strict") rows;
-    guarded = is_set (codes "guarded") rows;
-  })
-
 -- the report of a name goes to standard output, so the output has to go into a file
 abbrev pub report_by : Option (List ℕ) → Option (List ℕ) → Result (Option ReportView) Misuse
 report_by None output = Ok None
@@ -221,20 +203,30 @@ has_reports EditView.Transcript beside = true
 has_reports EditView.Reports beside = true
 has_reports _ beside = false
 
--- an edit in place has its own file and its own view, so neither may be given; why items are refused
--- is said beside what is printed without reports, unless the edit is quiet
+-- an edit in place has its own file and its own view, the log, so neither may be given; else what is
+-- printed is what was found, or the transcript; why items are refused is said beside what is printed
+-- without reports, unless the edit is quiet
 unfoldable pub edit_of : List Row → Result EditAsked Misuse
 edit_of rows =
-    if is_in_place rows && (is_given (codes "output") rows || is_given (codes "print") rows)
+    let in_place = is_set (codes "in-place") rows in
+    if in_place && (is_given (codes "output") rows || is_given (codes "print") rows)
     then Err Misuse.TwoOutputs else do
-      editing ← editing_of rows
+      seed ← number_of NumberOption.Seed 0 rows
+      every ← number_of NumberOption.Every 50 rows
+      view ← if in_place then Ok EditView.Log else view_of edit_views EditView.Transcript rows
       source ← edits_from_of rows
       beside ← report_of rows
       Ok (record {
         edits_from = source;
-        editing = editing;
+        editing = record {
+          seed = seed;
+          every = every;
+          view = view;
+          strict = is_set (codes "strict") rows;
+          guarded = is_set (codes "guarded") rows;
+        };
         report = beside;
-        refusals = not (is_set (codes "quiet") rows) && not (has_reports editing.view beside);
+        refusals = not (is_set (codes "quiet") rows) && not (has_reports view beside);
       })
 
 -- ---- which part of a cave a map draws

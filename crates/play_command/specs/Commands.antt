@@ -14,6 +14,9 @@ use Rattle.play_command.specs.Asked.{check_views, cover_views, edit_views, play_
 use Rattle.play_command.specs.Asked.{is_given}
 use Rattle.play_command.specs.declared.commands.Argument.{Argument}
 use Rattle.play_command.specs.declared.commands.Form.{Form}
+use Rattle.play_command.specs.declared.commands.Form.TheVariants.{File, Files, Flag, NeededFile}
+use Rattle.play_command.specs.declared.commands.Form.TheVariants.{NeededFiles, Report, Value}
+use Rattle.play_command.specs.declared.commands.Form.TheVariants.{Values, View}
 use Rattle.play_command.specs.declared.commands.CommandName.{CommandName}
 use Rattle.play_command.specs.declared.commands.CommandRow.{CommandRow}
 
@@ -40,8 +43,8 @@ has_files ids rows = list_all (λ id. is_given id rows) ids
 
 -- a command isn't complete without an argument that is given so
 abbrev pub is_needed : Form → Bool
-is_needed Form.NeededFile = true
-is_needed Form.NeededFiles = true
+is_needed NeededFile = true
+is_needed NeededFiles = true
 is_needed _ = false
 
 -- the arguments of which that is so
@@ -88,18 +91,18 @@ option id = record (new_rule id) { long = Some id; value_names = 1 }
 
 -- an argument by how it is given; a report is `reports` if its value is left out
 abbrev pub plain_argument : Form → List ℕ → Rule
-plain_argument Form.File id = file id
-plain_argument Form.Files id = record (file id) { action = Some Append }
-plain_argument Form.NeededFile id = record (file id) { required = true }
-plain_argument Form.NeededFiles id = record (file id) { action = Some Append; required = true }
-plain_argument Form.Value id = option id
-plain_argument Form.Values id = record (option id) { action = Some Append }
-plain_argument (Form.View names) id = with_names names (option id)
-plain_argument (Form.Report names) id = record (with_names names (option id)) {
+plain_argument File id = file id
+plain_argument Files id = record (file id) { action = Some Append }
+plain_argument NeededFile id = record (file id) { required = true }
+plain_argument NeededFiles id = record (file id) { action = Some Append; required = true }
+plain_argument Value id = option id
+plain_argument Values id = record (option id) { action = Some Append }
+plain_argument (View names) id = with_names names (option id)
+plain_argument (Report names) id = record (with_names names (option id)) {
   range = Some (record { start_inclusive = 0; end_inclusive = 1 });
   missing = codes "reports" ∷ [];
 }
-plain_argument Form.Flag id = record (new_rule id) { long = Some id; action = Some SetTrue }
+plain_argument Flag id = record (new_rule id) { long = Some id; action = Some SetTrue }
 
 abbrev pub with_letter : Option ℕ → Rule → Rule
 with_letter None rule = rule
@@ -139,39 +142,30 @@ argument given id = plain_argument given (codes id)
 abbrev pub lettered : Form → String → Rule
 lettered given id = with_letter (slice_get (codes id) 0) (argument given id)
 
-abbrev pub needed : String → Rule
-needed id = argument Form.NeededFile id
-
-abbrev pub value : String → Rule
-value id = argument Form.Value id
-
-abbrev pub short_value : String → Rule
-short_value id = lettered Form.Value id
-
-abbrev pub flag : String → Rule
-flag id = argument Form.Flag id
-
 abbrev pub print : Names → Rule
-print names = lettered (Form.View names) "print"
+print names = lettered (View names) "print"
 
 -- the arguments of each command
 abbrev pub rules_of : ViewNames → CommandName → List Rule
-rules_of names CommandName.Check = needed "cave" ∷ short_value "bind" ∷ print names.check.0
-    ∷ flag "strict" ∷ value "known" ∷ short_value "output" ∷ []
-rules_of names CommandName.Play = needed "cave" ∷ needed "log" ∷ short_value "bind"
-    ∷ short_value "seed" ∷ print names.play.0 ∷ short_value "output" ∷ []
-rules_of names CommandName.Edit = needed "cave" ∷ needed "log" ∷ argument Form.File "script"
-    ∷ lettered Form.Values "edit" ∷ value "to" ∷ short_value "bind" ∷ short_value "seed"
-    ∷ value "every" ∷ print names.edit.0 ∷ flag "strict" ∷ flag "guarded"
-    ∷ lettered Form.Flag "quiet" ∷ argument (Form.Report names.report.0) "report"
-    ∷ short_value "output" ∷ flag "in-place" ∷ []
-rules_of names CommandName.Script = needed "old" ∷ needed "new" ∷ flag "guarded" ∷ flag "group"
-    ∷ short_value "output" ∷ []
-rules_of names CommandName.Cover = needed "cave" ∷ argument Form.NeededFiles "log"
-    ∷ short_value "bind" ∷ short_value "seed" ∷ print names.cover.0 ∷ flag "strict"
-    ∷ value "known" ∷ short_value "output" ∷ []
-rules_of names CommandName.Map = needed "cave" ∷ argument Form.Files "log" ∷ short_value "bind"
-    ∷ short_value "seed" ∷ flag "seen" ∷ value "from" ∷ value "within" ∷ short_value "output" ∷ []
+rules_of names CommandName.Check = argument NeededFile "cave" ∷ lettered Value "bind"
+    ∷ print names.check.0 ∷ argument Flag "strict" ∷ argument Value "known"
+    ∷ lettered Value "output" ∷ []
+rules_of names CommandName.Play = argument NeededFile "cave" ∷ argument NeededFile "log"
+    ∷ lettered Value "bind" ∷ lettered Value "seed" ∷ print names.play.0 ∷ lettered Value "output"
+    ∷ []
+rules_of names CommandName.Edit = argument NeededFile "cave" ∷ argument NeededFile "log"
+    ∷ argument File "script" ∷ lettered Values "edit" ∷ argument Value "to" ∷ lettered Value "bind"
+    ∷ lettered Value "seed" ∷ argument Value "every" ∷ print names.edit.0 ∷ argument Flag "strict"
+    ∷ argument Flag "guarded" ∷ lettered Flag "quiet" ∷ argument (Report names.report.0) "report"
+    ∷ lettered Value "output" ∷ argument Flag "in-place" ∷ []
+rules_of names CommandName.Script = argument NeededFile "old" ∷ argument NeededFile "new"
+    ∷ argument Flag "guarded" ∷ argument Flag "group" ∷ lettered Value "output" ∷ []
+rules_of names CommandName.Cover = argument NeededFile "cave" ∷ argument NeededFiles "log"
+    ∷ lettered Value "bind" ∷ lettered Value "seed" ∷ print names.cover.0 ∷ argument Flag "strict"
+    ∷ argument Value "known" ∷ lettered Value "output" ∷ []
+rules_of names CommandName.Map = argument NeededFile "cave" ∷ argument Files "log"
+    ∷ lettered Value "bind" ∷ lettered Value "seed" ∷ argument Flag "seen" ∷ argument Value "from"
+    ∷ argument Value "within" ∷ lettered Value "output" ∷ []
 
 -- the program, which requires one of its commands
 abbrev pub plain_app : App

@@ -1,13 +1,11 @@
 -- Which run the words ask for, why they are refused, what is said then, and the status.
 use Rattle.std.specs.Prelude.{◌≡◌, ◌⊎◌, ℕ, Bool, List, [], Option, Some, None, codes, map}
 use Rattle.std.specs.Prelude.{option_and_then, option_map, string_bytes, Result, Ok, Err}
-use Rattle.std.specs.Prelude.{MatchResult, if◌then◌else◌, slice_get, unwrap_or, ◌++◌}
+use Rattle.std.specs.Prelude.{if◌then◌else◌, slice_get, unwrap_or, ◌++◌}
 use Rattle.std.specs.Option.{option_map_or}
-use Rattle.clap.specs.Words.{App, IsAmong, HasKind, Kinds, Row, all_of, fault_of, first_of, kind_of}
-use Rattle.clap.specs.Words.{subcommand_of, subcommand_rows_of}
-use Rattle.clap.specs.declared.error.Error.{Error}
+use Rattle.clap.specs.Words.{IsAmong, Kinds, Row, all_of, fault_of, first_of, kind_of}
+use Rattle.clap.specs.Words.{subcommand_of}
 use Rattle.clap.specs.declared.error.kind.ErrorKind.{ErrorKind}
-use Rattle.clap.specs.declared.parser.matches.ArgMatches.{ArgMatches}
 use Rattle.play_command.specs.Asked.{◌>>=◌, what_of, files_of, is_set, named, named_file}
 use Rattle.play_command.specs.Asked.{number_row, output_of}
 use Rattle.play_command.specs.Commands.{ForCave, commands, has_files, meant_in}
@@ -108,16 +106,6 @@ WordsAskForOneRun = (met : MetCommand) (one other : Request)
 abbrev pub IsAnswer : List (List ℕ) → Result Line CommandFault → Type 0
 IsAnswer words answer = ForCave (λ app. IsErrorAnswer words (fault_of app words) answer
     ⊎ ((fault_of app words ≡ []) × IsRunAnswer (subcommand_of app words) answer))
-
--- the parser's answer to words: what they say, if nothing is wrong with them, and otherwise an
--- error that says what is wrong, unless memory ran out
-abbrev pub IsParseBy : List (List ℕ) → Result ArgMatches Error → App → Type 0
-IsParseBy words answer app = MatchResult answer
-    (λ matches. (fault_of app words ≡ []) × (subcommand_rows_of matches ≡ subcommand_of app words))
-    (HasKind (fault_of app words))
-
-abbrev pub IsParse : List (List ℕ) → Result ArgMatches Error → Type 0
-IsParse words answer = ForCave (IsParseBy words answer)
 
 -- ---- what is said of a refusal, and the status
 

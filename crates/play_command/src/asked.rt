@@ -1,15 +1,14 @@
 //! What each command asks, by what the parser found.
 
 ghost use Rattle.std.specs.Prelude.{◌≡◌, map};
-ghost use Rattle.play_command.specs.Asked.{around_of, check_of, cover_of, edit_of, editing_of};
+ghost use Rattle.play_command.specs.Asked.{around_of, check_of, cover_of, edit_of};
 ghost use Rattle.play_command.specs.Asked.{edits_from_of, judges_left, part_of, report_of, view_of};
 ghost use Rattle.play_command.specs.Asked.{what_of, rows_in, with_text};
 
 use crate::commands::CommandName;
 use crate::fault::Misuse;
 use crate::found::{
-    NumberOption, is_given, is_in_place, is_set, number_in, number_said, output_in, value_in,
-    values_in,
+    NumberOption, is_given, is_set, number_in, number_said, output_in, value_in, values_in,
 };
 use crate::line::{EditAsked, Editing, EditsFrom, MapPart, Surroundings, What};
 use crate::views::{
@@ -70,24 +69,6 @@ fn edits_from_in(found: &ArgMatches<'_>) -> Result<EditsFrom, Misuse>
     }
 }
 
-/// How a log is to be edited. In place it is printed as a log.
-#[tactic(auto, unfolding(crate::specs::Asked::editing_of))]
-fn editing_in(found: &ArgMatches<'_>) -> Result<Editing, Misuse>
-    ensures { result ≡ editing_of (rows_in found.now) }
-{
-    Ok(Editing {
-        seed: number_in(found, NumberOption::Seed, USUAL_SEED)?,
-        every: number_in(found, NumberOption::Every, USUAL_EVERY)?,
-        view: if is_in_place(found) {
-            EditView::Log
-        } else {
-            view_in(found, EDIT_VIEWS, EDIT_VIEWS[0].1)?
-        },
-        strict: is_set(found, "strict"),
-        guarded: is_set(found, "guarded"),
-    })
-}
-
 /// The report that the parser found, if it found one. It goes to standard output, so the output has
 /// to go into a file.
 fn report_in(found: &ArgMatches<'_>) -> Result<Option<ReportView>, Misuse>
@@ -102,15 +83,27 @@ fn report_in(found: &ArgMatches<'_>) -> Result<Option<ReportView>, Misuse>
     Ok(Some(named(&REPORT_VIEWS, name).ok_or(Misuse::Incomplete)?))
 }
 
-/// What an edit asks. In place it has its own file and its own view, so it is given neither.
+/// What an edit asks. In place it has its own file and its own view, the log, so it is given
+/// neither.
 #[tactic(auto, unfolding(crate::specs::Asked::edit_of))]
 fn edit_in(found: &ArgMatches<'_>) -> Result<EditAsked, Misuse>
     ensures { result ≡ edit_of (rows_in found.now) }
 {
-    if is_in_place(found) && (is_given(found, "output") || is_given(found, "print")) {
+    let in_place = is_set(found, "in-place");
+    if in_place && (is_given(found, "output") || is_given(found, "print")) {
         return Err(Misuse::TwoOutputs);
     }
-    let editing = editing_in(found)?;
+    let editing = Editing {
+        seed: number_in(found, NumberOption::Seed, USUAL_SEED)?,
+        every: number_in(found, NumberOption::Every, USUAL_EVERY)?,
+        view: if in_place {
+            EditView::Log
+        } else {
+            view_in(found, EDIT_VIEWS, EDIT_VIEWS[0].1)?
+        },
+        strict: is_set(found, "strict"),
+        guarded: is_set(found, "guarded"),
+    };
     let edits_from = edits_from_in(found)?;
     let report = report_in(found)?;
     let has_reports = matches!(

@@ -4,9 +4,8 @@ ghost use Rattle.std.specs.Prelude.{◌≡◌, ◌≤◌, IfOk, MatchOption, Non
 ghost use Rattle.std.specs.List.{flat_map, list_all};
 ghost use Rattle.base_lines.specs.Bytes.{is_digit};
 ghost use Rattle.clap.specs.Words.{all_of, first_of};
-ghost use Rattle.play_command.specs.Asked.{files_at, is_given, is_in_place, is_set, named_file};
-ghost use Rattle.play_command.specs.Asked.{number_of, number_row, number_said, output_of, rows_in};
-ghost use Rattle.play_command.specs.Asked.{with_text};
+ghost use Rattle.play_command.specs.Asked.{files_at, is_given, is_set, named_file, number_of};
+ghost use Rattle.play_command.specs.Asked.{number_row, number_said, output_of, rows_in, with_text};
 
 use crate::fault::Misuse;
 use crate::line::{Input, NamedFile};
@@ -149,17 +148,14 @@ pub(crate) fn files_in<'a>(
     Ok(files)
 }
 
-/// Whether an edited log is written over the log.
-pub(crate) fn is_in_place(found: &ArgMatches<'_>) -> bool
-    ensures { result ≡ is_in_place (rows_in found.now) }
-{
-    is_set(found, "in-place")
-}
-
-/// The file of the output: the log, or the one that was found, if one was.
+/// The file of the output: the log in place, or the one that was found, if one was.
 pub(crate) fn output_in<'a>(found: &ArgMatches<'a>) -> Option<&'a str>
     ensures { option_map (λ file. file.now) result ≡ output_of (rows_in found.now) }
 {
-    let id = if is_in_place(found) { "log" } else { "output" };
+    let id = if is_set(found, "in-place") {
+        "log"
+    } else {
+        "output"
+    };
     value_in(found, id)
 }

@@ -1,18 +1,18 @@
 //! Which run the words ask for.
 
-ghost use Rattle.std.specs.Prelude.{◌≡◌, Err, Some, map};
-ghost use Rattle.clap.specs.Words.{HasKind, IsAmong, Kinds, kind_of, subcommand_rows_of};
-ghost use Rattle.clap.specs.declared.error.kind.ErrorKind.TheVariants.{InvalidSubcommand};
+ghost use Rattle.std.specs.Prelude.{◌≡◌, map};
+ghost use Rattle.clap.specs.Words.{HasKind, Kinds, subcommand_rows_of};
 ghost use Rattle.play_command.specs.Commands.{has_files, needed_in};
 ghost use Rattle.play_command.specs.Asked.{rows_in};
-ghost use Rattle.play_command.specs.Line.{IsAnswer, IsErrorAnswer, IsParse, IsRunAnswer, asked_by};
+ghost use Rattle.play_command.specs.Line.{IsAnswer, IsErrorAnswer, IsRunAnswer, asked_by};
 
 use crate::app::cave_app;
 use crate::asked::what_in;
-use crate::commands::{Argument, Form, meant_command, row_named};
+use crate::commands::{Argument, COMMANDS, Form, meant_command};
 use crate::fault::{CommandFault, Misuse};
 use crate::found::{FILES, files_in, is_given, is_set, output_in, value_in, values_in};
 use crate::line::{Line, Request, What};
+use crate::views::named;
 use clap::error::ErrorKind;
 use clap::{ArgMatches, Error};
 use replay_scripts::text_of_lines;
@@ -26,18 +26,11 @@ pub fn command_line<'a, S: AsStr>(
 ) -> Result<Line<'a>, CommandFault<'a>>
     ensures { IsAnswer (map S.text words.entry.now) result }
 {
-    match parse(alloc, words) {
+    let command = cave_app(alloc)?;
+    match command.try_get_matches_from(words) {
         Ok(matches) => answer_met(alloc, &matches),
         Err(error) => answer_to(error, words),
     }
-}
-
-/// What the parser finds in the words.
-fn parse<'a, S: AsStr>(alloc: Global, words: &'a [S]) -> Result<ArgMatches<'a>, Error>
-    ensures { IsParse (map S.text words.entry.now) result }
-{
-    let command = cave_app(alloc)?;
-    command.try_get_matches_from(words)
 }
 
 /// What an error of the parser leads to: a text to print, or a fault.
@@ -48,45 +41,24 @@ fn answer_to<'a, S: AsStr>(error: Error, words: &'a [S]) -> Result<Line<'a>, Com
     match error.kind() {
         ErrorKind::DisplayHelp | ErrorKind::DisplayVersion => Ok(Line::Text(error)),
         ErrorKind::OutOfMemory => Err(CommandFault::Memory),
-        ErrorKind::InvalidSubcommand => Err(no_command(error, words)),
+        ErrorKind::InvalidSubcommand => match words.get(1) {
+            Some(word) => match meant_command(word.as_str()) {
+                Some(command) => Err(CommandFault::OtherName(word.as_str(), command)),
+                None => Err(CommandFault::Usage(error)),
+            },
+            None => Err(CommandFault::Usage(error)),
+        },
         _ => Err(CommandFault::Usage(error)),
     }
 }
 
-/// The fault of words in which the parser found no command.
-fn no_command<'a, S: AsStr>(error: Error, words: &'a [S]) -> CommandFault<'a>
-    requires { kind_of error ≡ InvalidSubcommand }
-    ensures { (kinds : Kinds) → IsAmong InvalidSubcommand kinds
-        → IsErrorAnswer (map S.text words.now) kinds (Err result) }
-{
-    let Some(word) = words.get(1) else {
-        return CommandFault::Usage(error);
-    };
-    let word = word.as_str();
-    match meant_command(word) {
-        Some(command) => CommandFault::OtherName(word, command),
-        None => CommandFault::Usage(error),
-    }
-}
-
-/// What the command leads to that the parser met.
+/// The run of the command that the parser met, or how its arguments are misused.
 fn answer_met<'a>(alloc: Global, matches: &ArgMatches<'a>) -> Result<Line<'a>, CommandFault<'a>>
     ensures { IsRunAnswer (subcommand_rows_of matches.now) result }
 {
-    match matches.subcommand() {
-        Some((name, found)) => answer_by(alloc, name, found),
-        None => Err(CommandFault::Misuse(Misuse::Incomplete, "")),
-    }
-}
-
-/// The run of the command of a name, or how its arguments are misused.
-fn answer_by<'a>(
-    alloc: Global,
-    name: &str,
-    found: &ArgMatches<'a>,
-) -> Result<Line<'a>, CommandFault<'a>>
-    ensures { IsRunAnswer (Some (name.now, rows_in found.now)) result }
-{
+    let Some((name, found)) = matches.subcommand() else {
+        return Err(CommandFault::Misuse(Misuse::Incomplete, ""));
+    };
     match asked_by(name, found) {
         Err(misuse) => {
             let given = match misuse {
@@ -112,7 +84,7 @@ fn answer_by<'a>(
 fn asked_by(name: &str, found: &ArgMatches<'_>) -> Result<What, Misuse>
     ensures { result ≡ asked_by name.now (rows_in found.now) }
 {
-    match row_named(name) {
+    match named(&COMMANDS, name) {
         Some(row) if has_files(row.arguments, found) => what_in(row.command, found),
         _ => Err(Misuse::Incomplete),
     }

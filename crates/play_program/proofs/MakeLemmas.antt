@@ -1,11 +1,11 @@
 -- What a run has of its inputs before it, and of several logs after it.
-use Rattle.std.proofs.Common.{suc, ◌≡◌, ℕ, Bool, true, false, List, [], ◌∷◌, map, Option, ap}
-use Rattle.std.proofs.Common.{Result, Ok, Err, length, refl, sym, subst, ◌∙◌}
+use Rattle.std.proofs.Common.{suc, ◌≡◌, ℕ, Bool, true, false, List, [], ◌∷◌, map, Option, None}
+use Rattle.std.proofs.Common.{Some, ap, option_map, Result, Ok, Err, length, refl, subst, sym, ◌∙◌}
 use Rattle.std.proofs.lemmas.List.{length-map}
 use Rattle.std.specs.List.{AllZip, flat_map}
 use Rattle.std.specs.Prelude.{⊤, IfOk, MatchResult, if◌then◌else◌, unwrap_or}
 use Rattle.cave_play.specs.Sources.{InputTexts, Says, AreHeld, Held, Leads}
-use Rattle.cave_play.specs.Logs.{IsMadeReport, JudgesLogs}
+use Rattle.std.specs.Borrow.{Bor}
 use Rattle.cave_play.specs.declared.output.Reported.{Reported}
 use Rattle.cave_play.specs.declared.logs.LogsFault.{LogsFault}
 use Rattle.play_command.specs.declared.line.Input.TheVariants as input
@@ -13,15 +13,10 @@ use Rattle.play_command.specs.declared.line.Request.{Request}
 use Rattle.play_command.specs.declared.line.What.{What}
 use Rattle.play_command.specs.declared.line.What.TheVariants.{Check, Cover, Doubts, Edit, Map, Play}
 use Rattle.play_command.specs.declared.line.What.TheVariants.{Script}
-use Rattle.play_command.specs.declared.views.CoverView.{CoverView}
-use Rattle.check_tables.specs.Known.{known_entries}
-use Rattle.play_cover.specs.Plays.{IsCovered, cover_stages}
-use Rattle.play_cover.specs.declared.run.CoverAsked.{CoverAsked}
 use Rattle.play_program.specs.Calls.{Call, and_then, Told}
 use Rattle.play_program.specs.Ends.{MakesOpened, held_by, ReadsFiles, made_with}
-use Rattle.play_program.specs.Files.{FileName, file_of, files_in, is_same_input, log_count}
-use Rattle.play_program.specs.Making.{HasReadAll, IsCoverage, IsMadeBy, of_cover, of_map}
-use Rattle.play_program.specs.Making.{third_of}
+use Rattle.play_program.specs.Files.{FileName, files_in, is_same_input, log_count}
+use Rattle.play_program.specs.Making.{HasReadAll, IsMadeBy, of_cover, of_map, third_of}
 use Rattle.play_program.specs.Sources.{entry_of, held_in, held_of, typed_text, Entry, ReadFile}
 use Rattle.play_program.specs.Sources.{ReadsOne, calls_for, entries_by, entries_in, of_input}
 use Rattle.play_program.specs.declared.make.Made.{Made}
@@ -51,29 +46,11 @@ IsJudged what request held made = (texts : InputTexts) × (logs : List (List ℕ
     × AreHeld (third_of what) held texts × AllZip Says held.logs logs
     × IsMadeBy what request texts logs made
 
--- what coverage is, by what was asked of it
-pub IsCoverage-asked : (request : Request) (texts : InputTexts) (logs : List (List ℕ)) (seed : ℕ)
-    (view : CoverView) (strict : Bool) (asked : CoverAsked) → asked.seed ≡ seed
-    → asked.view ≡ view → asked.known.now ≡ unwrap_or (file_of request input.Known 0) []
-    → (reported : Result (Reported ℕ) LogsFault) (made : Result Made LogsFault)
-    → made ≡ of_cover strict reported
-    → JudgesLogs (cover_stages texts.database texts.bindings texts.script asked.seed) logs
-    (IsMadeReport (IsCovered texts.database texts.bindings
-    (known_entries asked.known.now texts.script) logs asked.seed asked.view)) reported
-    → IsCoverage request texts logs made seed view strict
-IsCoverage-asked request texts logs seed view strict asked seed_is view_is known_is reported made
-    is judged =
-    let list = unwrap_or (file_of request input.Known 0) [] in
-    let Judged = λ (name : List ℕ) (s : ℕ) (v : CoverView).
-    JudgesLogs (cover_stages texts.database texts.bindings texts.script s) logs
-    (IsMadeReport (IsCovered texts.database texts.bindings (known_entries name texts.script) logs s
-    v)) reported in (
-      reported,
-      is,
-      subst (Judged list seed) view_is
-          (subst (λ s. Judged list s asked.view) seed_is
-          (subst (λ name. Judged name asked.seed asked.view) known_is judged)),
-    )
+-- the text of a name that may be missing
+pub now_of_name : (name : Option (Bor (List ℕ))) (other : Bor (List ℕ))
+    → (unwrap_or name other).now ≡ unwrap_or (option_map (λ s. s.now) name) other.now
+now_of_name None other = refl
+now_of_name (Some name) other = refl
 
 -- ---- how many logs there are
 

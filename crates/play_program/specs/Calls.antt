@@ -1,6 +1,6 @@
 -- What the program asks of its system, what it says, and with which status it ends.
-use Rattle.std.specs.Prelude.{◌≡◌, ℕ, Bool, true, false, List, [], ◌∷◌, ◌++◌, Option, None, Result}
-use Rattle.std.specs.Prelude.{Ok, Err, if◌then◌else◌, option_map}
+use Rattle.std.specs.Prelude.{◌≡◌, ℕ, Bool, true, false, List, [], ◌∷◌, ◌++◌, Option, None, Some}
+use Rattle.std.specs.Prelude.{⊤, Result, Ok, Err, if◌then◌else◌, option_map}
 use Rattle.std.specs.IoError.{error_kind}
 use Rattle.std.specs.declared.io.Error.{Error}
 use Rattle.std.specs.declared.io.ErrorKind.{ErrorKind}
@@ -82,3 +82,10 @@ and_then known more = option_map (λ calls. calls ++ more) known
 abbrev pub EndsTold : Told → Option (List Call) → Option (List Call) → ℕ → Type 0
 EndsTold said calls called status = (status ≡ status_told said)
     × (called ≡ (if is_silent said then calls else and_then calls (Tells said ∷ [])))
+
+-- ---- a file that is replaced
+
+-- if the bytes of a file are known, those of it, or of its draft, become these
+abbrev pub Becomes : Option (List ℕ) → Option (List ℕ) → Option (List ℕ) → Type 0
+Becomes None new made = ⊤
+Becomes (Some old) new made = new ≡ made

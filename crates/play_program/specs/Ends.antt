@@ -98,19 +98,10 @@ Prints text old new ended = MatchResult ended (λ _. Appends old new text)
 abbrev pub IsUnput : List ℕ → Told → Type 0
 IsUnput file said = (said ≡ out_of_memory) ⊎ ((reason : Error) × (said ≡ unwritten file reason))
 
--- once the report was printed, the output was put into its file
-abbrev pub PutsAfter : List ℕ → List ℕ → Option (List Call) → Option (List Call)
-    → Result (Unit {0}) Told → Result (Unit {0}) Told → Type 0
-PutsAfter file output calls called (Ok done) ended =
-    (called ≡ and_then calls (Puts file output ∷ []))
-    × MatchResult ended (λ _. Unit {0}) (IsUnput file)
-PutsAfter file output calls called (Err said) ended = (called ≡ calls) × (ended ≡ Err said)
-
--- once the output was printed, the report was
-abbrev pub PrintsAfter : List ℕ → Option (List ℕ) → Option (List ℕ) → Result (Unit {0}) Told
-    → Result (Unit {0}) Told → Type 0
-PrintsAfter report old new (Ok done) ended = Prints report old new ended
-PrintsAfter report old new (Err said) ended = (new ≡ old) × (ended ≡ Err said)
+-- what comes once this is done; if it isn't, why it isn't is said, and all else is as before
+abbrev pub OnceDone : {A B : Type 0} → Result A Told → Result B Told → Type 0 → (A → Type 0) → Type 0
+OnceDone (Ok done) ended IsAsBefore Follows = Follows done
+OnceDone (Err said) ended IsAsBefore Follows = IsAsBefore × (ended ≡ Err said)
 
 -- the report was printed, and then the output went into the file; or the output was printed, if it
 -- goes into none, and then the report
@@ -118,12 +109,14 @@ abbrev pub Delivers : Option (List ℕ) → Made → Option (List Call) → Opti
     → Option (List ℕ) → Option (List ℕ) → Result (Unit {0}) Told → Type 0
 Delivers (Some file) made calls called old new ended =
     (printed : Result (Unit {0}) Told) × Prints (report_in made.edits) old new printed
-    × PutsAfter file made.output.items calls called printed ended
+    × OnceDone printed ended (called ≡ calls)
+    (λ _. (called ≡ and_then calls (Puts file made.output.items ∷ []))
+    × MatchResult ended (λ _. Unit {0}) (IsUnput file))
 Delivers None made calls called old new ended =
     (called ≡ calls)
     × ((mid : Option (List ℕ)) × (printed : Result (Unit {0}) Told)
     × Prints made.output.items old mid printed
-    × PrintsAfter (report_in made.edits) mid new printed ended)
+    × OnceDone printed ended (new ≡ mid) (λ _. Prints (report_in made.edits) mid new ended))
 
 -- ---- how the run ends
 
@@ -132,21 +125,6 @@ abbrev pub with_left : Request → Option PlayFault → Option EditRun → Resul
 with_left request None edits = Ok edits
 with_left request (Some found) edits = Err (fault_told request found None)
 
-abbrev pub ended_by : Request → Made → Result (Unit {0}) Told → Result (Option EditRun) Told
-ended_by request made (Ok done) = with_left request made.left made.edits
-ended_by request made (Err said) = Err said
-
--- what was made is delivered; if nothing was, nothing is
-abbrev pub DeliversIf : Request → Result Made Told → Option (List Call)
-    → Option (List Call) → Option (List ℕ) → Option (List ℕ) → Result (Option EditRun) Told
-    → Type 0
-DeliversIf request (Ok made) calls called old new ended =
-    (delivered : Result (Unit {0}) Told)
-    × Delivers (output_of request) made calls called old new delivered
-    × (ended ≡ ended_by request made delivered)
-DeliversIf request (Err said) calls called old new ended =
-    (called ≡ calls) × (new ≡ old) × (ended ≡ Err said)
-
 -- the output goes over no file that is read, or over one that it may replace, and the run was done;
 -- or nothing was
 abbrev pub RunsApart : (List ℕ → List ℕ → Option Bool) → (List ℕ → Option (List ℕ)) → Request
@@ -154,8 +132,12 @@ abbrev pub RunsApart : (List ℕ → List ℕ → Option Bool) → (List ℕ →
     → Result (Option EditRun) Told → Type 0
 RunsApart one_file bytes_of request calls called old new ended =
     (AreApart one_file request.what (output_of request) (files_in request)
-    × ((ran : Option (List Call)) × (made : Result Made Told)
-    × MakesOf bytes_of request calls ran made × DeliversIf request made ran called old new ended))
+    × ((ran : Option (List Call)) × (found : Result Made Told)
+    × MakesOf bytes_of request calls ran found
+    × OnceDone found ended ((called ≡ ran) × (new ≡ old))
+    (λ made. (delivered : Result (Unit {0}) Told)
+    × Delivers (output_of request) made ran called old new delivered
+    × OnceDone delivered ended (Unit {0}) (λ _. ended ≡ with_left request made.left made.edits))))
     ⊎ ((said : Told) × (ended ≡ Err said)
     × IsClash one_file request.what (output_of request) (files_in request) said
     × (called ≡ calls) × (new ≡ old))

@@ -4,4 +4,3 @@ pub mod Files
 pub mod Head
 pub mod Making
 pub mod Sources
-pub mod Target

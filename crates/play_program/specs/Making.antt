@@ -10,7 +10,6 @@ use Rattle.cave_play.specs.Stages.{Judges, Stage, cave_stages, doubts_stages, ed
 use Rattle.cave_play.specs.Stages.{play_stages}
 use Rattle.check_doubts.specs.declared.flaw.Doubt.{Doubt}
 use Rattle.play_edits.specs.declared.items.EditRun.{EditRun}
-use Rattle.play_command.specs.declared.views.CoverView.{CoverView}
 use Rattle.play_command.specs.declared.line.EditAsked.{EditAsked}
 use Rattle.play_command.specs.declared.line.EditsFrom.{EditsFrom}
 use Rattle.play_command.specs.declared.line.Input.{Input}
@@ -75,27 +74,10 @@ pub record AreListed (request : Request) (files : DoubtFiles) : Type 0 where
   pub bindings : files.bindings.now ≡ unwrap_or (file_of request Input.Bindings 0) []
   pub known : files.known.now ≡ unwrap_or (file_of request Input.Known 0) []
 
--- the texts of inputs, of which the logs may be several
-module _ (request : Request) (texts : InputTexts) (logs : List (List ℕ))
-    (made : Result Made LogsFault) where
-  -- a text is made, after these stages
-  abbrev pub IsText : List Stage → (List ℕ → Type 0) → Type 0
-  IsText stages IsOutput = (text : Result (Reported (Unit {0})) PlayFault) × (made ≡ of_text text)
-      × Judges stages (λ whole. IsOutput whole.text.items) text
-
-  abbrev pub IsDoubts : Bool → Type 0
-  IsDoubts strict = (listed : Result (Reported (Vec Doubt)) PlayFault) × (files : DoubtFiles)
-      × (made ≡ of_doubts strict listed) × AreListed request files
-      × Judges (doubts_stages texts.database texts.bindings texts.script)
-      (AreLeftIn files texts.database texts.bindings texts.script) listed
-
-  abbrev pub IsCoverage : ℕ → CoverView → Bool → Type 0
-  IsCoverage seed view strict =
-      (reported : Result (Reported ℕ) LogsFault) × (made ≡ of_cover strict reported)
-      × JudgesLogs (cover_stages texts.database texts.bindings texts.script seed) logs
-      (IsMadeReport (IsCovered texts.database texts.bindings
-      (known_entries (unwrap_or (file_of request Input.Known 0) []) texts.script) logs seed view))
-      reported
+-- a text is made, after these stages
+abbrev pub IsText : List Stage → (List ℕ → Type 0) → Result Made LogsFault → Type 0
+IsText stages IsOutput made = (text : Result (Reported (Unit {0})) PlayFault)
+    × (made ≡ of_text text) × Judges stages (λ whole. IsOutput whole.text.items) text
 
 -- what edits make: those of a script, or those that make a log
 abbrev pub IsMadeFrom : EditsFrom → EditAsked → InputTexts → Result (Reported EditRun) PlayFault → Type 0
@@ -108,20 +90,27 @@ IsMadeFrom EditsFrom.NewLog asked texts edited =
 -- what a command makes of the texts of its inputs
 abbrev pub IsMadeBy : What → Request → InputTexts → List (List ℕ) → Result Made LogsFault → Type 0
 IsMadeBy (What.Check view) request texts logs made =
-    IsText request texts logs made (cave_stages texts.database texts.bindings)
-    (IsChecked view texts.database texts.bindings)
-IsMadeBy (What.Doubts strict) request texts logs made = IsDoubts request texts logs made strict
+    IsText (cave_stages texts.database texts.bindings)
+    (IsChecked view texts.database texts.bindings) made
+IsMadeBy (What.Doubts strict) request texts logs made =
+    (listed : Result (Reported (Vec Doubt)) PlayFault) × (files : DoubtFiles)
+    × (made ≡ of_doubts strict listed) × AreListed request files
+    × Judges (doubts_stages texts.database texts.bindings texts.script)
+    (AreLeftIn files texts.database texts.bindings texts.script) listed
 IsMadeBy (What.Play seed view) request texts logs made =
-    IsText request texts logs made
-    (play_stages texts.database texts.bindings texts.log seed)
-    (IsPlayed texts.database texts.bindings texts.log seed view)
+    IsText (play_stages texts.database texts.bindings texts.log seed)
+    (IsPlayed texts.database texts.bindings texts.log seed view) made
 IsMadeBy (What.Edit asked) request texts logs made =
     (edited : Result (Reported EditRun) PlayFault) × (made ≡ of_edits edited)
     × IsMadeFrom asked.edits_from asked texts edited
 IsMadeBy (What.Script form) request texts logs made =
     (text : Result (Reported (Unit {0})) PlayFault) × (made ≡ of_text text) × JudgesScript form texts text
 IsMadeBy (What.Cover seed view strict) request texts logs made =
-    IsCoverage request texts logs made seed view strict
+    (reported : Result (Reported ℕ) LogsFault) × (made ≡ of_cover strict reported)
+    × JudgesLogs (cover_stages texts.database texts.bindings texts.script seed) logs
+    (IsMadeReport (IsCovered texts.database texts.bindings
+    (known_entries (unwrap_or (file_of request Input.Known 0) []) texts.script) logs seed view))
+    reported
 IsMadeBy (What.Map seed part) request texts logs made =
     (reported : Result (Reported (Unit {0})) LogsFault) × (made ≡ of_map reported)
     × JudgesMap texts.database texts.bindings logs seed part reported

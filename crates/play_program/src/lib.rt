@@ -2,18 +2,15 @@
 //! a fault.
 #![tactic(auto)]
 
-mod clash;
 mod files;
 pub mod head;
 mod make;
 pub mod message;
-mod notices;
 pub mod output;
 pub mod program;
 pub mod run;
 mod sources;
 pub mod system;
-pub mod target;
 
 pub use cave_play::{CaveReaders, LogsFault, PlayFault};
 pub use message::Message;
@@ -22,5 +19,4 @@ pub use play_command::{CoverView, MapPart, Surroundings, TextView};
 pub use play_cover::run::{CoverAsked, run_cover};
 pub use play_map::run::run_map;
 pub use program::run_program;
-pub use system::System;
-pub use target::{Target, replace};
+pub use system::{System, Target, replace};

@@ -1,22 +1,21 @@
 //! What the run of a request makes of its inputs.
 
-ghost use Rattle.std.specs.Prelude.{◌≡◌, ℕ, List, [], IfOk, length, map, unwrap_or};
+ghost use Rattle.std.specs.Prelude.{◌≡◌, ℕ, List, IfOk, length, map};
 ghost use Rattle.std.specs.List.{AllZip};
 ghost use Rattle.cave_play.specs.Sources.{InputTexts, Says, AreHeld, Leads};
 ghost use Rattle.play_command.specs.Asked.{named_file};
-ghost use Rattle.play_program.specs.Files.{file_of, log_count};
-ghost use Rattle.play_program.specs.Making.{AreListed, HasReadAll, IsMadeBy, IsMadeFrom, made_of};
+ghost use Rattle.play_program.specs.Files.{log_count};
+ghost use Rattle.play_program.specs.Making.{AreListed, HasReadAll, IsMadeBy, made_of};
 ghost use Rattle.play_program.specs.Making.{of_cover, of_doubts, of_edits, of_map, of_text, third_of};
 
 use crate::files::{file_of, log_count};
-use cave_play::doubted::{first_doubt, make_doubts};
 use cave_play::inputs::Sources;
 use cave_play::output::Reported;
-use cave_play::run::{make_check, make_edit, make_play};
+use cave_play::run::{first_doubt, make_check, make_doubts, make_edit, make_play};
 use cave_play::two_logs::{make_edit_to, make_script};
 use cave_play::{LogsFault, PlayFault};
 use check_doubts::{Doubt, DoubtFiles};
-use play_command::{CoverView, EditAsked, EditsFrom, Input, Request, What};
+use play_command::{EditsFrom, Input, Request, What};
 use play_cover::run::{CoverAsked, make_cover};
 use play_edits::EditRun;
 use play_map::run::make_map;
@@ -95,36 +94,6 @@ fn doubt_files<'a>(request: &Request<'a>) -> DoubtFiles<'a>
     }
 }
 
-/// What is asked of the coverage of logs.
-fn cover_asked<'a>(request: &Request<'a>, seed: u32, view: CoverView) -> CoverAsked<'a>
-    ensures seed { result.seed ≡ seed }
-    ensures view { result.view ≡ view }
-    ensures known { result.known.now ≡ unwrap_or (file_of request.now Input.Known 0) [] }
-{
-    CoverAsked {
-        seed,
-        view,
-        known: file_of(request, Input::Known, 0).unwrap_or(""),
-    }
-}
-
-/// What edits of a log make: those of a script, or those that make another log of it.
-fn make_edits<I: Sources>(
-    alloc: Global,
-    inputs: &mut I,
-    asked: EditAsked,
-) -> Result<Reported<EditRun>, PlayFault>
-    ensures judged { (texts : InputTexts)
-        × AreHeld (third_of (What.Edit asked)) (I.held inputs.old) texts
-        × IsMadeFrom asked.edits_from asked texts result }
-    ensures leads { Leads I.Reads inputs.old inputs.new }
-{
-    match asked.edits_from {
-        EditsFrom::Script => make_edit(alloc, inputs, asked.editing, asked.report),
-        EditsFrom::NewLog => make_edit_to(alloc, inputs, asked.editing, asked.report),
-    }
-}
-
 /// What the run of a request makes of its inputs. It asks for each when its turn comes.
 pub(crate) fn make<I: Sources>(
     alloc: Global,
@@ -147,10 +116,14 @@ pub(crate) fn make<I: Sources>(
             of_doubts(strict, make_doubts(alloc, inputs, &files))
         }
         What::Play { seed, view } => of_text(make_play(alloc, inputs, seed, view)),
-        What::Edit(asked) => of_edits(make_edits(alloc, inputs, asked)),
+        What::Edit(asked) => match asked.edits_from {
+            EditsFrom::Script => of_edits(make_edit(alloc, inputs, asked.editing, asked.report)),
+            EditsFrom::NewLog => of_edits(make_edit_to(alloc, inputs, asked.editing, asked.report)),
+        },
         What::Script(form) => of_text(make_script(alloc, inputs, form)),
         What::Cover { seed, view, strict } => {
-            let asked = cover_asked(request, seed, view);
+            let known = file_of(request, Input::Known, 0).unwrap_or("");
+            let asked = CoverAsked { seed, view, known };
             of_cover(strict, make_cover(alloc, inputs, logs, &asked))
         }
         What::Map { seed, part } => of_map(make_map(alloc, inputs, logs, seed, part)),

@@ -1,8 +1,7 @@
 //! What the program says apart from its output, and the status with which it ends if that is why.
 
-ghost use Rattle.std.specs.Prelude.{◌≡◌, None};
+ghost use Rattle.std.specs.Prelude.{◌≡◌};
 ghost use Rattle.play_program.specs.Calls.{is_silent, out_of_memory, status_told, told_of};
-ghost use Rattle.play_program.specs.Calls.Told.{faulty};
 ghost use Rattle.play_program.specs.Files.{fault_told};
 
 use crate::files::file_of;
@@ -36,18 +35,11 @@ pub enum Message<'a> {
 }
 
 impl<'a> Message<'a> {
-    /// A fault that is about no file.
-    pub(crate) fn of(fault: PlayFault) -> Message<'a>
-        ensures { told_of result ≡ faulty fault None }
-    {
-        Message::Fault(fault, None)
-    }
-
     /// Memory ran out.
     pub(crate) fn memory() -> Message<'a>
         ensures { told_of result ≡ out_of_memory }
     {
-        Message::of(PlayFault::Memory)
+        Message::Fault(PlayFault::Memory, None)
     }
 
     /// The fault of the run of a request, with the file that it is about, of several logs the one at

@@ -20,7 +20,7 @@ fn print<S: System, W: Write>(system: &mut S, text: &Error, output: &mut Output<
     match write!(output, "{text}") {
         Ok(()) => DONE,
         Err(reason) => {
-            let reason = output.reason().unwrap_or(reason);
+            let reason = output.reason.unwrap_or(reason);
             end_with(system, Message::Unprinted(reason))
         }
     }
@@ -55,25 +55,8 @@ fn refuse<S: System>(alloc: Global, system: &mut S, fault: &CommandFault<'_>) ->
     }
 }
 
-/// Does what words ask for: a run, or help or the version, which are printed.
-fn begin<S: System, W: Write>(
-    alloc: Global,
-    system: &mut S,
-    words: &[String],
-    output: &mut Output<W>,
-) -> u8
-    ensures ends { EndsWords (map string_bytes words.now) (S.one_file system.old)
-        (S.bytes_of system.old) (S.calls system.old) (S.calls system.new)
-        (W.contents output.old.writer) (W.contents output.new.writer) output.new.reason result }
-{
-    match command_line(alloc, words) {
-        Ok(Line::Run(request)) => run(alloc, system, &request, output),
-        Ok(Line::Text(text)) => print(system, &text, output),
-        Err(fault) => refuse(alloc, system, &fault),
-    }
-}
-
-/// The program: does what its words ask for, if they could be read, and returns its status.
+/// The program: does what its words ask for, if they could be read, and returns its status. They
+/// ask for a run, or for help or the version, which are printed.
 pub fn run_program<S: System, W: Write>(
     alloc: Global,
     system: &mut S,
@@ -88,7 +71,11 @@ pub fn run_program<S: System, W: Write>(
         × EndsUnread (S.calls system.old) (S.calls system.new) result) }
 {
     match words {
-        Ok(words) => begin(alloc, system, words.as_slice(), output),
+        Ok(words) => match command_line(alloc, words.as_slice()) {
+            Ok(Line::Run(request)) => run(alloc, system, &request, output),
+            Ok(Line::Text(text)) => print(system, &text, output),
+            Err(fault) => refuse(alloc, system, &fault),
+        },
         Err(reason) if reason.kind() == ErrorKind::OutOfMemory => {
             end_with(system, Message::memory())
         }

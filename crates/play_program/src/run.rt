@@ -1,21 +1,21 @@
-//! The run of a request: what it makes of its files, and where that goes.
+//! The run of a request: what it makes of its files, where that goes, and what is said beside it.
 
 ghost use Rattle.std.specs.Prelude.{◌≡◌, [], ◌∷◌, IfErr, option_map};
 ghost use Rattle.play_program.specs.Calls.{EndsTold, and_then, told_by, told_of};
 ghost use Rattle.play_program.specs.Calls.Call.{Puts};
 ghost use Rattle.play_program.specs.Ends.{Delivers, EndsRun, IsUnput, MakesOf, Prints, RunsApart};
-ghost use Rattle.play_program.specs.Ends.{why_unmade, with_reason};
+ghost use Rattle.play_program.specs.Ends.{notices, refusal_notices, report_in, why_unmade};
+ghost use Rattle.play_program.specs.Ends.{with_reason};
 
-use crate::clash::check_output;
+use crate::files::check_output;
 use crate::make::{Made, make};
 use crate::message::Message;
-use crate::notices::{report_in, tell_notices};
 use crate::output::Output;
 use crate::sources::{Files, open_first};
 use crate::system::System;
 use cave_play::output::write_output;
 use cave_play::{LogsFault, PlayFault};
-use play_command::Request;
+use play_command::{EditAsked, EditView, Request, What};
 use play_edits::EditRun;
 use std::alloc::Global;
 use std::io;
@@ -59,6 +59,13 @@ fn make_of_files<'a, S: System>(
     }
 }
 
+/// The report that a run has made, if it was asked for one.
+fn report_in(edits: &Option<EditRun>) -> &[u8]
+    ensures { result.now ≡ report_in edits.now }
+{
+    edits.as_ref().map_or(&[], |run| &run.report)
+}
+
 /// Prints a text.
 fn print<'a, W: Write>(output: &mut W, text: &[u8]) -> Result<(), Message<'a>>
     ensures { Prints text.now (W.contents output.old) (W.contents output.new) (told_by result) }
@@ -68,7 +75,7 @@ fn print<'a, W: Write>(output: &mut W, text: &[u8]) -> Result<(), Message<'a>>
     }
     match write_output(output, text) {
         Ok(()) => Ok(()),
-        Err(fault) => Err(Message::of(fault)),
+        Err(fault) => Err(Message::Fault(fault, None)),
     }
 }
 
@@ -130,6 +137,33 @@ fn run_apart<'a, S: System, W: Write>(
     }
 }
 
+/// Reports each item that was refused, as it is reported if the run is strict.
+fn tell_refusals<S: System>(system: &mut S, request: &Request<'_>, asked: EditAsked, run: &EditRun)
+    ensures { S.calls system.new
+        ≡ and_then (S.calls system.old) (refusal_notices request.now asked run.now) }
+{
+    if !asked.refusals {
+        return;
+    }
+    for refusal in &run.refused {
+        system.tell(Message::of_fault(request, PlayFault::Refused(*refusal), None));
+    }
+}
+
+/// Says what is to be said of edits beside their output: why items were refused, and a seed that
+/// the edited log doesn't hold.
+fn tell_notices<S: System>(system: &mut S, request: &Request<'_>, edits: &Option<EditRun>)
+    ensures { S.calls system.new ≡ and_then (S.calls system.old) (notices request.now edits.now) }
+{
+    if let (What::Edit(asked), Some(run)) = (request.what, edits) {
+        tell_refusals(system, request, asked, run);
+        let is_log = matches!(asked.editing.view, EditView::Log);
+        if !request.quiet && is_log && asked.editing.seed != run.seed {
+            system.tell(Message::Reseeded(run.seed));
+        }
+    }
+}
+
 /// What is said, with the reason that the writer of the output gave, if it gave one and that is what
 /// failed.
 fn with_reason<'a>(message: Message<'a>, reason: Option<io::Error>) -> Message<'a>
@@ -169,6 +203,6 @@ pub fn run<S: System, W: Write>(
             tell_notices(system, request, &edits);
             DONE
         }
-        Err(message) => end_with(system, with_reason(message, output.reason())),
+        Err(message) => end_with(system, with_reason(message, output.reason)),
     }
 }

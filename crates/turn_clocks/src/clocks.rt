@@ -4,12 +4,12 @@ ghost use Rattle.turn_scene.specs.Bounds.{GoesOnSaying, HasRoom, parts_of_clocks
 ghost use Rattle.turn_scene.specs.Rows.{act_of, PlaysBy};
 ghost use Rattle.turn_clocks.specs.Clocks.{tick_clocks, run_clocks};
 
-use crate::first_clock::{begin_closing, first_clock_goes};
+use crate::first_clock::{self, first_clock_runs};
 use crate::lamp::run_lamp;
 use crate::repository::close_cave;
 use cave_world::{RowNotes, Table};
 use data_rows::PlaceRole;
-use turn_scene::{Rules, Scene, place_named, rows};
+use turn_scene::{Rules, Scene, is_bound, rows};
 use world_objects::Place;
 
 /// What follows after the clocks and the lamp have gone on by a turn.
@@ -44,17 +44,16 @@ fn tick_clocks<N: RowNotes>(rules: &Rules<'_>, scene: &mut Scene<'_, N>) -> bool
     ensures clock { PlaysBy N.rows tick_clocks 1 rules.now tt scene.old scene.new result }
 {
     rows! { scene, Table::Clocks, false;
-        let is_first = first_clock_goes(rules, scene);
-        is_first && scene.state.closing.first_clock == 1 => { begin_closing(rules, scene); };
-        is_first => { scene.state.closing.first_clock -= 1; };
-        let has_first_run_out = scene.state.closing.first_clock == -1;
-        has_first_run_out && scene.state.closing.second_clock == 1 && !scene.state.closing.is_closed
-            && place_named(rules.cave, PlaceRole::Ne).is_some()
-            && place_named(rules.cave, PlaceRole::Sw).is_some() => {
+        let runs = first_clock_runs(rules, scene);
+        let first_clock = scene.state.closing.first_clock;
+        runs && first_clock == 1 => first_clock::begin_closing(rules);
+        runs => { scene.state.closing.first_clock -= 1; };
+        let second_clock = scene.state.closing.second_clock;
+        first_clock == -1 && second_clock == 1 && !scene.state.closing.is_closed
+            && is_bound(rules, PlaceRole::Ne) && is_bound(rules, PlaceRole::Sw) => {
             scene.state.closing.second_clock -= 1;
             close_cave(rules, scene);
         } -> true;
-        has_first_run_out && 0 <= scene.state.closing.second_clock
-            => { scene.state.closing.second_clock -= 1; };
+        first_clock == -1 && 0 <= second_clock => { scene.state.closing.second_clock -= 1; };
     }
 }

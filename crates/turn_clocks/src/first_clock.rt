@@ -11,22 +11,21 @@ use cave_words::Named;
 use cave_world::{Dwarf, RowNotes, Table};
 use data_rows::{PlaceRole, Role};
 use turn_scene::props::{AXE_FREE, BEAR_DEAD, CHAIN_UNLOCKED, FISSURE_OPEN, GRATE_LOCKED};
-use turn_scene::{Rules, Scene, deep_place, has_prop, is_place, place_named, rows};
+use turn_scene::{Rules, Scene, has_prop, is_in_the_depths, is_player_at, rows};
 use world_objects::Place;
 
-/// Whether the first clock runs. It doesn't run at y2.
-pub fn first_clock_goes<N: RowNotes>(rules: &Rules<'_>, scene: &Scene<'_, N>) -> bool
+/// Whether the first clock runs: no treasure counts as unseen, the player is in the depths, but not
+/// at y2, and some turns are left.
+pub fn first_clock_runs<N: RowNotes>(rules: &Rules<'_>, scene: &Scene<'_, N>) -> bool
     ensures value { result
         ≡ all_hold (all_seen ∷ in_the_depths ∷ no (player_at place.Y2) ∷ some_turns_left ∷ [])
         (deed (cave_of rules.now) tt (scene_of N.rows scene.now)) }
     ensures left { IsTrue result → pos 1 ≤ℤ scene.now.state.now.closing.first_clock }
 {
-    let state = &*scene.state;
-    let here = state.trail.here;
-    state.tallies.unseen.number() == 0
-        && deep_place(rules.cave).number() <= here.number()
-        && !is_place(here, place_named(rules.cave, PlaceRole::Y2))
-        && 0 < state.closing.first_clock
+    scene.state.tallies.unseen.number() == 0
+        && is_in_the_depths(rules, scene.state)
+        && !is_player_at(rules, scene.state, PlaceRole::Y2)
+        && 0 < scene.state.closing.first_clock
 }
 
 fn dismiss(dwarf: &mut Dwarf)

@@ -11,7 +11,7 @@ ghost use Rattle.cave_world.specs.State.{takes_no_command, turns_in_area};
 ghost use Rattle.turn_scene.specs.Bounds.{GoesOnSaying, HasRoom, SaysUpTo, parts_of_question};
 ghost use Rattle.turn_scene.specs.Scene.{scene_of, cave_of};
 ghost use Rattle.turn_scene.specs.Rows.{Does, by_rows, by_table};
-ghost use Rattle.turn_scene.specs.Effects.{with_charge};
+ghost use Rattle.turn_scene.specs.Effects.{Changes, with_charge};
 ghost use Rattle.cave_world.specs.declared.tables.Table.TheVariants as table;
 ghost use Rattle.turn_clocks.specs.Hints as defined;
 ghost use Rattle.turn_clocks.specs.Hints.{offer, guard_rows};
@@ -76,18 +76,15 @@ fn consider<N: RowNotes>(
     ensures stays { takes_no_command scene.new.state.now ≡ false
         → takes_no_command scene.old.state.now ≡ false }
 {
-    let is_in_area = is_in_area(number, conditions);
-    if !is_in_area && turns_in_area(number, scene.state).number() == 0 {
+    let in_area = is_in_area(number, conditions);
+    if !in_area && turns_in_area(number, scene.state).number() == 0 {
         return;
     }
     if let Some(hint) = rules.cave.hint(u16::from(number.number())) {
-        let is_left = !scene.state.is_hint_taken(number);
+        let has_hint = scene.state.is_hint_taken(number);
         rows! { scene, Table::HintTurns;
-            is_left && !is_in_area => { restart(number, scene.state); };
-            is_left => {
-                count_turn(number, scene.state);
-                consider_offer(rules, number, &hint, scene);
-            };
+            !has_hint && !in_area => self::restart(number);
+            !has_hint => self::count_turn(number), self::consider_offer(rules, number, &hint);
         }
     }
 }
@@ -115,7 +112,7 @@ fn consider_offer<N: RowNotes>(
     let has_stayed = hint.turns <= turns_in_area(number, scene.state).number();
     rows! { scene, Table::Offers;
         has_stayed && scene.state.takes_no_command() => {};
-        has_stayed => { offer_by_guard(rules, number, scene); };
+        has_stayed => self::offer_by_guard(rules, number);
     }
 }
 
@@ -144,23 +141,23 @@ fn is_in_area(hint: HintNumber, conditions: u32) -> bool
 
 /// One more turn in the area of a hint.
 #[tactic(auto, unfolding(cave_world::specs::State::takes_no_command))]
-fn count_turn(hint: HintNumber, state: &mut State)
-    ensures state { state.new ≡ with_turns_in_area hint
-        (min (turns_in_area state.old hint + 1) defined_state.MAX_TURNS_IN_AREA) state.old }
-    ensures here { state.new.trail ≡ state.old.trail }
-    ensures over { takes_no_command state.new ≡ takes_no_command state.old }
+fn count_turn<N: RowNotes>(hint: HintNumber, scene: &mut Scene<'_, N>)
+    ensures state { Changes N.rows (λ s. with_turns_in_area hint
+        (min (turns_in_area s hint + 1) defined_state.MAX_TURNS_IN_AREA) s) scene.old scene.new }
+    ensures here { scene.new.state.now.trail ≡ scene.old.state.now.trail }
+    ensures over { takes_no_command scene.new.state.now ≡ takes_no_command scene.old.state.now }
 {
-    set_turns_in_area(hint, turns_in_area(hint, state).up(), state);
+    set_turns_in_area(hint, turns_in_area(hint, scene.state).up(), scene.state);
 }
 
 /// Counts the turns in the area of a hint from 0 again.
 #[tactic(auto, unfolding(cave_world::specs::State::takes_no_command))]
-fn restart(hint: HintNumber, state: &mut State)
-    ensures state { state.new ≡ with_turns_in_area hint 0 state.old }
-    ensures here { state.new.trail ≡ state.old.trail }
-    ensures over { takes_no_command state.new ≡ takes_no_command state.old }
+fn restart<N: RowNotes>(hint: HintNumber, scene: &mut Scene<'_, N>)
+    ensures state { Changes N.rows (with_turns_in_area hint 0) scene.old scene.new }
+    ensures here { scene.new.state.now.trail ≡ scene.old.state.now.trail }
+    ensures over { takes_no_command scene.new.state.now ≡ takes_no_command scene.old.state.now }
 {
-    set_turns_in_area(hint, Count::new(0), state);
+    set_turns_in_area(hint, Count::new(0), scene.state);
 }
 
 /// Offers a hint, and counts its turns from 0 again.
@@ -171,7 +168,7 @@ fn offer<N: RowNotes>(rules: &Rules<'_>, number: HintNumber, scene: &mut Scene<'
     ensures here { scene.new.state.now.trail ≡ scene.old.state.now.trail }
     ensures over { IsTrue (takes_no_command scene.new.state.now) }
 {
-    restart(number, scene.state);
+    restart(number, scene);
     ask(rules, &Question::Hint(number), scene);
 }
 
@@ -188,24 +185,24 @@ fn offer_by_guard<N: RowNotes>(rules: &Rules<'_>, number: HintNumber, scene: &mu
     rows! { scene, Table::HintGuards;
         h == GRATE_HINT && has_prop(scene.state, rules.thing(Named::Grate), GRATE_LOCKED)
             && !is_near(rules, scene.state, rules.thing(Named::Keys))
-            => { offer(rules, number, scene); };
+            => self::offer(rules, number);
         h == BIRD_HINT && is_near(rules, scene.state, rules.thing(Named::Bird))
             && is_carried(rules, scene.state, rules.thing(Named::Rod))
             && rules.is(scene.state.talk.last, Named::Bird)
-            => { offer(rules, number, scene); };
+            => self::offer(rules, number);
         h == SNAKE_HINT && is_near(rules, scene.state, rules.thing(Named::Snake))
             && !is_near(rules, scene.state, rules.thing(Named::Bird))
-            => { offer(rules, number, scene); };
+            => self::offer(rules, number);
         let trail = scene.state.trail;
         h == MAZE_HINT && scene.state.is_bare(trail.here) && scene.state.is_bare(trail.last)
             && scene.state.is_bare(trail.older) && 1 < scene.state.holding()
-            => { offer(rules, number, scene); };
+            => self::offer(rules, number);
         h == PYRAMID_HINT && has_other_prop(scene.state, rules.thing(Named::Emerald), UNSEEN)
             && has_prop(scene.state, rules.thing(Named::Pyramid), UNSEEN)
-            => { offer(rules, number, scene); };
-        FIRST_UNGUARDED_HINT <= h => { offer(rules, number, scene); };
+            => self::offer(rules, number);
+        FIRST_UNGUARDED_HINT <= h => self::offer(rules, number);
         h == BIRD_HINT => {};
-        otherwise => { restart(number, scene.state); };
+        otherwise => self::restart(number);
     }
 }
 
@@ -289,25 +286,19 @@ pub fn give_hint<N: RowNotes>(rules: &Rules<'_>, number: HintNumber, scene: &mut
 {
     if let Some(hint) = rules.cave.hint(u16::from(number.number())) {
         rows! { scene, Table::HintGiven;
-            LOW_CHARGE < scene.state.lamp.charge.turns() => {
-                scene.tell(Part::Message(hint.text));
-                scene.state.take_hint(number);
-                prolong(hint.points, scene.state);
-            };
-            otherwise => {
-                scene.tell(Part::Message(hint.text));
-                scene.state.take_hint(number);
-            };
+            LOW_CHARGE < scene.state.lamp.charge.turns()
+                => tell_message(hint.text), take_hint(number), self::prolong(hint.points);
+            otherwise => tell_message(hint.text), take_hint(number);
         }
     }
 }
 
 /// The lamp burns for longer, by the points of a hint.
-fn prolong(points: u16, state: &mut State)
-    ensures { state.new
-        ≡ with_charge (longer_charge points state.old.lamp.charge) state.old }
+fn prolong<N: RowNotes>(points: u16, scene: &mut Scene<'_, N>)
+    ensures { Changes N.rows (λ s. with_charge (longer_charge points s.lamp.charge) s)
+        scene.old scene.new }
 {
-    let turns = state.lamp.charge.turns();
+    let turns = scene.state.lamp.charge.turns();
     let more = TURNS_A_POINT * i32::from(points);
-    state.lamp.charge = Charge::capped(turns + more);
+    scene.state.lamp.charge = Charge::capped(turns + more);
 }

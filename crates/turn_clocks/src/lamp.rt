@@ -1,11 +1,12 @@
-ghost use Rattle.std.specs.Prelude.{◌≡◌, [], ◌∷◌};
+ghost use Rattle.std.specs.Prelude.{[], ◌∷◌};
 ghost use Rattle.turn_scene.specs.Bounds.{HasRoom};
 ghost use Rattle.turn_scene.specs.Rows.{Does, PlaysBy};
-ghost use Rattle.turn_clocks.specs.Lamp.{burn, care_for_lamp, go_out, lamp_clock, with_new_charge};
+ghost use Rattle.turn_clocks.specs.Lamp.{burn, care_for_lamp, change_batteries, go_out};
+ghost use Rattle.turn_clocks.specs.Lamp.{lamp_clock, warn};
 
 use crate::clocks::Clocks;
 use cave_words::Named;
-use cave_world::{Charge, LAMP_ON, LOW_CHARGE, RowNotes, State, Table};
+use cave_world::{Charge, LAMP_ON, LOW_CHARGE, RowNotes, Table};
 use data_rows::Role;
 use turn_scene::props::{BATTERIES_FRESH, BATTERIES_USED, LAMP_OFF};
 use turn_scene::{Rules, Scene, has_prop, is_near, outside_place, rows};
@@ -25,12 +26,19 @@ fn burn<N: RowNotes>(rules: &Rules<'_>, scene: &mut Scene<'_, N>)
     }
 }
 
-fn renew_charge(state: &mut State)
-    ensures { state.new ≡ with_new_charge state.old }
+/// The lamp gets new batteries.
+#[tactic(auto, unfolding(crate::specs::Lamp::change_batteries))]
+fn change_batteries<N: RowNotes>(rules: &Rules<'_>, scene: &mut Scene<'_, N>)
+    requires { HasRoom 1 scene.old }
+    ensures effects { Does N.rows change_batteries 1 rules.now tt scene.old scene.new }
 {
-    let turns = state.lamp.charge.turns();
-    state.lamp.charge = Charge::capped(turns + BATTERY_TURNS);
-    state.lamp.is_warned = false;
+    let batteries = rules.thing(Named::Batteries);
+    scene.say(Role::Replaced);
+    scene.set_prop(batteries, BATTERIES_USED);
+    scene.lay_down(rules, batteries);
+    let turns = scene.state.lamp.charge.turns();
+    scene.state.lamp.charge = Charge::capped(turns + BATTERY_TURNS);
+    scene.state.lamp.is_warned = false;
 }
 
 /// The lamp has gone out, and can't be lit again.
@@ -42,7 +50,7 @@ fn go_out<N: RowNotes>(rules: &Rules<'_>, scene: &mut Scene<'_, N>)
 }
 
 /// What happens after the lamp has burnt.
-#[tactic(auto, unfolding(crate::specs::Lamp::care_for_lamp, crate::specs::Lamp::lamp_rows, crate::specs::Lamp::change_batteries, crate::specs::Lamp::warn, crate::specs::Lamp::warning_rows))]
+#[tactic(auto, unfolding(crate::specs::Lamp::care_for_lamp, crate::specs::Lamp::lamp_rows))]
 fn care_for_lamp<N: RowNotes>(rules: &Rules<'_>, scene: &mut Scene<'_, N>) -> Clocks
     requires { HasRoom 1 scene.old }
     ensures row { PlaysBy N.rows care_for_lamp 1 rules.now tt scene.old scene.new result }
@@ -52,30 +60,30 @@ fn care_for_lamp<N: RowNotes>(rules: &Rules<'_>, scene: &mut Scene<'_, N>) -> Cl
     rows! { scene, Table::Lamp, Clocks::GoOn;
         is_low && is_near(rules, scene.state, rules.thing(Named::Batteries))
             && has_prop(scene.state, rules.thing(Named::Batteries), BATTERIES_FRESH)
-            && is_near(rules, scene.state, rules.thing(Named::Lamp)) => {
-            let batteries = rules.thing(Named::Batteries);
-            scene.say(Role::Replaced);
-            scene.set_prop(batteries, BATTERIES_USED);
-            scene.lay_down(rules, batteries);
-            renew_charge(scene.state);
-        };
-        turns == 0 && is_near(rules, scene.state, rules.thing(Named::Lamp)) => {
-            go_out(rules, scene);
-            scene.say(Role::LampDead);
-        };
-        turns == 0 => { go_out(rules, scene); };
+            && is_near(rules, scene.state, rules.thing(Named::Lamp))
+            => self::change_batteries(rules);
+        turns == 0 && is_near(rules, scene.state, rules.thing(Named::Lamp))
+            => self::go_out(rules), say(Role::LampDead);
+        turns == 0 => self::go_out(rules);
         turns < 0 && scene.state.trail.here.number() <= outside_place(rules.cave).number()
             => say(Role::GiveUp) -> Clocks::GaveUp;
         is_low && !scene.state.lamp.is_warned
-            && is_near(rules, scene.state, rules.thing(Named::Lamp)) => {
-            let batteries = rules.thing(Named::Batteries);
-            scene.state.lamp.is_warned = true;
-            rows! { scene, Table::LampWarning;
-                has_prop(scene.state, batteries, BATTERIES_USED) => say(Role::LampLowUsed);
-                scene.state.is_gone(batteries) => say(Role::LampLowFind);
-                otherwise => say(Role::LampLow);
-            }
-        };
+            && is_near(rules, scene.state, rules.thing(Named::Lamp)) => self::warn(rules);
+    }
+}
+
+/// The player is warned that the lamp is low.
+#[tactic(auto, unfolding(crate::specs::Lamp::warn, crate::specs::Lamp::warning_rows))]
+fn warn<N: RowNotes>(rules: &Rules<'_>, scene: &mut Scene<'_, N>)
+    requires { HasRoom 1 scene.old }
+    ensures effects { Does N.rows warn 1 rules.now tt scene.old scene.new }
+{
+    let batteries = rules.thing(Named::Batteries);
+    scene.state.lamp.is_warned = true;
+    rows! { scene, Table::LampWarning;
+        has_prop(scene.state, batteries, BATTERIES_USED) => say(Role::LampLowUsed);
+        scene.state.is_gone(batteries) => say(Role::LampLowFind);
+        otherwise => say(Role::LampLow);
     }
 }
 

@@ -16,7 +16,7 @@ use turn_scene::{Rules, Scene, place_named};
 use world_objects::{Anchor, Object, Objects, Place, Prop};
 
 /// Puts a thing at a place, with its prop.
-fn put_in(rules: &Rules<'_>, name: Named, prop: Prop, place: Place, objects: &mut Objects)
+fn store(rules: &Rules<'_>, name: Named, prop: Prop, place: Place, objects: &mut Objects)
     ensures { let x = thing (cave_of rules.now) name in
         objects.new ≡ with_prop (after_move_to objects.old x place) x prop }
 {
@@ -34,12 +34,12 @@ fn put_northeast_things<N: RowNotes>(rules: &Rules<'_>, place: Place, scene: &mu
     let empty = Prop::new(UNSEEN - BOTTLE_EMPTY);
     let unseen = Prop::new(UNSEEN);
     let objects = &mut scene.state.objects;
-    put_in(rules, Named::Bottle, empty, place, objects);
-    put_in(rules, Named::Plant, unseen, place, objects);
-    put_in(rules, Named::Oyster, unseen, place, objects);
-    put_in(rules, Named::Lamp, unseen, place, objects);
-    put_in(rules, Named::Rod, unseen, place, objects);
-    put_in(rules, Named::Dwarf, unseen, place, objects);
+    store(rules, Named::Bottle, empty, place, objects);
+    store(rules, Named::Plant, unseen, place, objects);
+    store(rules, Named::Oyster, unseen, place, objects);
+    store(rules, Named::Lamp, unseen, place, objects);
+    store(rules, Named::Rod, unseen, place, objects);
+    store(rules, Named::Dwarf, unseen, place, objects);
 }
 
 /// Hangs the mirror at the northeast end, with its second half at the southwest end.
@@ -54,7 +54,7 @@ fn hang_mirror<N: RowNotes>(
     ensures mirror { Does N.rows (hang_mirror ∷ []) 0 rules.now tt scene.old scene.new }
 {
     let objects = &mut scene.state.objects;
-    put_in(rules, Named::Mirror, Prop::new(UNSEEN), northeast, objects);
+    store(rules, Named::Mirror, Prop::new(UNSEEN), northeast, objects);
     objects.anchor_to(rules.thing(Named::Mirror), Anchor::at(southwest));
 }
 
@@ -74,12 +74,12 @@ fn put_southwest_things<N: RowNotes>(
     let caged = Prop::new(UNSEEN - BIRD_CAGED);
     let unseen = Prop::new(UNSEEN);
     let objects = &mut scene.state.objects;
-    put_in(rules, Named::Grate, unseen, southwest, objects);
-    put_in(rules, Named::Snake, gone, southwest, objects);
-    put_in(rules, Named::Bird, caged, southwest, objects);
-    put_in(rules, Named::Cage, unseen, southwest, objects);
-    put_in(rules, Named::SecondRod, unseen, southwest, objects);
-    put_in(rules, Named::Pillow, unseen, southwest, objects);
+    store(rules, Named::Grate, unseen, southwest, objects);
+    store(rules, Named::Snake, gone, southwest, objects);
+    store(rules, Named::Bird, caged, southwest, objects);
+    store(rules, Named::Cage, unseen, southwest, objects);
+    store(rules, Named::SecondRod, unseen, southwest, objects);
+    store(rules, Named::Pillow, unseen, southwest, objects);
     hang_mirror(rules, northeast, southwest, scene);
 }
 

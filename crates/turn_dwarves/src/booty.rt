@@ -4,6 +4,7 @@ ghost use Rattle.std.specs.Prelude.{◌≡◌};
 ghost use Rattle.turn_scene.specs.Bounds.{GoesOnSaying};
 ghost use Rattle.turn_scene.specs.Scene.{cave_of, scene_of};
 ghost use Rattle.turn_scene.specs.Treasures.{treasures};
+ghost use Rattle.turn_scene.specs.Effects.{Changes};
 ghost use Rattle.turn_scene.specs.Rows.{Does, deed};
 ghost use Rattle.turn_dwarves.specs.Pirate.{fair, is_carried_booty, carries_booty, treasure_near};
 ghost use Rattle.turn_dwarves.specs.Pirate.{after_stealing, after_stealing_all, take_booty};
@@ -11,7 +12,7 @@ ghost use Rattle.turn_dwarves.specs.Pirate.{with_pirate_home};
 
 use crate::band::{dwarf_of, set_dwarf};
 use cave_words::Named;
-use cave_world::{Dwarf, PIRATE, RowNotes, State, Table};
+use cave_world::{Dwarf, PIRATE, RowNotes, Table};
 use data_rows::PlaceRole;
 use turn_scene::treasures::{FIRST_TREASURE, LAST_TREASURE};
 use turn_scene::{Rules, Scene, is_carried, is_fixed, is_home_here, is_near, place_named, rows};
@@ -90,16 +91,16 @@ fn steal_all<N: RowNotes>(rules: &Rules<'_>, scene: &mut Scene<'_, N>)
 
 /// The pirate goes home to its chest, and no longer sees the player.
 #[tactic(auto, unfolding(crate::specs::Pirate::with_pirate_home))]
-pub fn send_pirate_home(rules: &Rules<'_>, state: &mut State)
-    ensures { state.new ≡ with_pirate_home (cave_of rules.now) state.old }
+pub fn go_home<N: RowNotes>(rules: &Rules<'_>, scene: &mut Scene<'_, N>)
+    ensures { Changes N.rows (with_pirate_home (cave_of rules.now)) scene.old scene.new }
 {
-    let pirate = dwarf_of(state, PIRATE);
+    let pirate = dwarf_of(scene.state, PIRATE);
     let pirate = Dwarf {
         place: place_named(rules.cave, PlaceRole::Chest).unwrap_or(pirate.place),
         last: place_named(rules.cave, PlaceRole::Chest).unwrap_or(pirate.last),
         has_seen: false,
     };
-    set_dwarf(PIRATE, &pirate, state);
+    set_dwarf(PIRATE, &pirate, scene.state);
 }
 
 /// The pirate leaves its message, takes all that it can get, and goes home with it.
@@ -109,5 +110,5 @@ pub fn take_booty<N: RowNotes>(rules: &Rules<'_>, scene: &mut Scene<'_, N>)
 {
     scene.send(rules, rules.thing(Named::Message), PlaceRole::Message);
     steal_all(rules, scene);
-    send_pirate_home(rules, scene.state);
+    go_home(rules, scene);
 }

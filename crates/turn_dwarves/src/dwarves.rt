@@ -8,9 +8,10 @@ ghost use Rattle.turn_dwarves.specs.Knives.{no_attack};
 use crate::knives::raid;
 use crate::lines::tell_attack;
 use crate::pirate::send_pirate;
-use crate::waking::{ASLEEP, STIRRING, is_in_depths, set_anger, try_waking};
+use crate::waking::{ASLEEP, STIRRING};
+use crate::{band, waking};
 use cave_world::{RowNotes, Table};
-use turn_scene::{Rules, Scene, rows};
+use turn_scene::{Rules, Scene, is_in_the_depths, rows};
 
 /// The dwarves sleep, stir, or are awake as the player arrives. Returns whether a knife hit the
 /// player.
@@ -23,18 +24,17 @@ pub fn encounter_dwarves<N: RowNotes>(rules: &Rules<'_>, scene: &mut Scene<'_, N
 {
     let anger = scene.state.dwarves.anger.number();
     rows! { scene, Table::Anger, false;
-        anger == ASLEEP && is_in_depths(rules, scene.state)
-            => { set_anger(STIRRING, scene.state); };
+        anger == ASLEEP && is_in_the_depths(rules, scene.state) => band::set_anger(STIRRING);
         anger == ASLEEP => {};
-        anger == STIRRING => { try_waking(rules, scene); };
-        otherwise => {} -> encounter_awake(rules, scene);
+        anger == STIRRING => waking::try_waking(rules);
+        otherwise => {} -> awake(rules, scene);
     }
 }
 
 /// The five act, then the pirate, and then it is printed what the five did. Returns whether a knife
 /// hit the player.
 #[tactic(auto, unfolding(crate::specs::Dwarves::awake, crate::specs::Lines::tell_attack))]
-fn encounter_awake<N: RowNotes>(rules: &Rules<'_>, scene: &mut Scene<'_, N>) -> bool
+fn awake<N: RowNotes>(rules: &Rules<'_>, scene: &mut Scene<'_, N>) -> bool
     requires { HasRoom parts_of_dwarves scene.old }
     ensures acts { act_of (scene_of N.rows scene.new) result
         ≡ nothing_but is_struck

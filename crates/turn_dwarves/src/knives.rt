@@ -7,7 +7,7 @@ ghost use Rattle.turn_dwarves.specs.Knives.{IsByUpTo, raider, throw_knife, threa
 ghost use Rattle.turn_dwarves.specs.Knives.{no_attack, raid};
 
 use crate::band::dwarf_of;
-use crate::moving::move_dwarf;
+use crate::moving;
 use crate::waking::AWAKE;
 use cave_world::{Knife, PIRATE, RowNotes, Table};
 use turn_scene::{Rules, Scene, rows};
@@ -81,7 +81,7 @@ impl Attack {
 
 /// A dwarf moves and then may threaten the player. One that is gone does nothing.
 #[tactic(auto, unfolding(crate::specs::Knives::dwarf_turn))]
-fn take_dwarf_turn<N: RowNotes>(
+fn dwarf_turn<N: RowNotes>(
     rules: &Rules<'_>,
     number: usize,
     attack: Attack,
@@ -95,8 +95,7 @@ fn take_dwarf_turn<N: RowNotes>(
 {
     rows! { scene, Table::DwarfTurn;
         dwarf_of(scene.state, number).place.number() == 0 => {} -> attack;
-        otherwise => { move_dwarf(rules, number, scene); }
-            -> threaten(rules, number, attack, scene);
+        otherwise => moving::move_dwarf(rules, number) -> threaten(rules, number, attack, scene);
     }
 }
 
@@ -121,9 +120,9 @@ fn threaten<N: RowNotes>(
         dwarf.last != scene.state.trail.here => {} -> attack.count_dwarf();
         let degree = scene.state.dwarves.anger.number().saturating_sub(AWAKE);
         scene.state.stream.draw(KNIFE_CASES) < HITS_A_DEGREE * u32::from(degree)
-            => { throw_knife(rules, number, attack, scene); }
+            => self::throw_knife(rules, number, attack)
             -> attack.count_dwarf().count_knife().count_hit();
-        otherwise => { throw_knife(rules, number, attack, scene); }
+        otherwise => self::throw_knife(rules, number, attack)
             -> attack.count_dwarf().count_knife();
     }
 }
@@ -153,7 +152,7 @@ pub fn raid<N: RowNotes>(rules: &Rules<'_>, scene: &mut Scene<'_, N>) -> Attack
 {
     let mut attack = Attack::none();
     for number in 0..PIRATE {
-        attack = take_dwarf_turn(rules, number, attack, scene);
+        attack = dwarf_turn(rules, number, attack, scene);
     }
     attack
 }

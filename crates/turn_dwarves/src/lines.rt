@@ -4,8 +4,9 @@ ghost use Rattle.turn_scene.specs.Rows.{Does, by_table};
 ghost use Rattle.cave_world.specs.declared.tables.Table.TheVariants as table;
 ghost use Rattle.turn_dwarves.specs.Lines.{dwarf_rows, provoked_rows, knife_rows, tell_attack};
 
+use crate::band;
 use crate::knives::Attack;
-use crate::waking::{AWAKE, set_anger};
+use crate::waking::AWAKE;
 use cave_world::{NumberLine, Part, RowNotes, Table};
 use data_rows::Role;
 use turn_scene::{Rules, Scene, rows};
@@ -35,7 +36,7 @@ fn set_provoked<N: RowNotes>(rules: &Rules<'_>, attack: Attack, scene: &mut Scen
 {
     rows! { scene, Table::Provoked;
         attack.knives != 0 && scene.state.dwarves.anger.number() == AWAKE
-            => { set_anger(PROVOKED, scene.state); };
+            => band::set_anger(PROVOKED);
     }
 }
 
@@ -50,10 +51,10 @@ fn tell_knife_lines<N: RowNotes>(rules: &Rules<'_>, attack: Attack, scene: &mut 
         attack.knives == 0 => {};
         attack.knives == 1 && attack.hits != 0 => say(Role::KnifeOne), say(Role::HitOne);
         attack.knives == 1 => say(Role::KnifeOne), say(Role::MissOne);
-        let thrown = Part::Number(NumberLine::KnivesThrown, attack.knives, 0);
-        attack.hits == 0 => tell(thrown), say(Role::MissAll);
-        attack.hits == 1 => tell(thrown), say(Role::HitMany);
-        otherwise => tell(thrown), tell(Part::Number(NumberLine::KnivesHit, attack.hits, 0));
+        let count_knives = Part::Number(NumberLine::KnivesThrown, attack.knives, 0);
+        attack.hits == 0 => tell(count_knives), say(Role::MissAll);
+        attack.hits == 1 => tell(count_knives), say(Role::HitMany);
+        otherwise => tell(count_knives), tell(Part::Number(NumberLine::KnivesHit, attack.hits, 0));
     }
 }
 

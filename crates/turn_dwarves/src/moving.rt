@@ -10,11 +10,10 @@ ghost use Rattle.turn_dwarves.specs.Moving.{chosen_way, dwarf_in_sight, after_dw
 use crate::ahead::{MAX_CANDIDATES, MAX_SOUGHT, places_ahead};
 use crate::band::{dwarf_of, set_dwarf};
 use crate::haunt::Haunt;
-use crate::waking::is_in_depths;
 use arrayvec::ArrayVec;
 use cave_words::Stream;
 use cave_world::{Dwarf, PIRATE, RowNotes, Table};
-use turn_scene::{Rules, Scene, rows};
+use turn_scene::{Rules, Scene, is_in_the_depths, rows};
 use world_objects::Place;
 
 /// Draws one of the first of some places.
@@ -64,7 +63,7 @@ fn dwarf_in_sight<N: RowNotes>(rules: &Rules<'_>, dwarf: Dwarf, scene: &mut Scen
 {
     let here = scene.state.trail.here;
     rows! { scene, Table::DwarfSight, come(dwarf, here);
-        dwarf.has_seen && is_in_depths(rules, scene.state) => {};
+        dwarf.has_seen && is_in_the_depths(rules, scene.state) => {};
         dwarf.place == here => {};
         dwarf.last == here => {};
         otherwise => {} -> Dwarf { place: dwarf.place, last: dwarf.last, has_seen: false };

@@ -4,7 +4,7 @@ ghost use Rattle.turn_scene.specs.Bounds.{GoesOnSaying, HasRoom, parts_of_death}
 ghost use Rattle.turn_scene.specs.Scene.{scene_of, cave_of};
 ghost use Rattle.turn_ends.specs.Endings.{with_one_death, after_die};
 
-use crate::endings::end;
+use crate::endings::end_as;
 use crate::questions::ask;
 use cave_world::{Ending, Question, RowNotes, State, Table};
 use data_rows::Role;
@@ -30,7 +30,7 @@ pub fn die<N: RowNotes>(rules: &Rules<'_>, scene: &mut Scene<'_, N>)
         scene.state.closing.is_closing => {
             scene.say(Role::KilledClosing);
             count_death(scene.state);
-            end(rules, Ending::Killed, scene);
+            end_as(rules, Ending::Killed, scene);
         };
         otherwise => { ask(rules, &Question::Die, scene); };
     }

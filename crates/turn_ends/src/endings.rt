@@ -18,7 +18,7 @@ use turn_scene::{Rules, Scene, rows};
 
 /// The game ends, and its score is printed.
 #[tactic(auto, unfolding(crate::specs::Endings::after_end))]
-pub fn end<N: RowNotes>(rules: &Rules<'_>, ending: Ending, scene: &mut Scene<'_, N>)
+pub fn end_as<N: RowNotes>(rules: &Rules<'_>, ending: Ending, scene: &mut Scene<'_, N>)
     requires { HasRoom parts_of_end scene.old }
     ensures scene { scene_of N.rows scene.new
         ≡ after_end (cave_of rules.now) ending (scene_of N.rows scene.old) }

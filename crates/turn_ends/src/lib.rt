@@ -12,7 +12,7 @@ pub mod worths;
 
 pub use begin::begun_state;
 pub use deaths::{count_death, die};
-pub use endings::end;
-pub use questions::{ask, question_row, tell_question};
+pub use endings::end_as;
+pub use questions::{ask, pose, question_row};
 pub use scorer::Scorer;
 pub use scores::{max_score, max_score_by, score, score_by};

@@ -3,7 +3,10 @@ ghost use Rattle.std.specs.FinMap.{get};
 ghost use Rattle.cave_world.specs.State.{takes_no_command};
 ghost use Rattle.cave_world.specs.declared.ending.Question.TheVariants as question_is;
 ghost use Rattle.turn_scene.specs.Bounds.{GoesOnSaying, HasRoom, parts_of_question};
-ghost use Rattle.turn_scene.specs.Scene.{scene_of, cave_of};
+ghost use Rattle.cave_world.specs.declared.part.NumberLine.TheVariants as line;
+ghost use Rattle.cave_world.specs.declared.part.Part.TheVariants as part;
+ghost use Rattle.turn_scene.specs.Scene.{after_telling, scene_of, cave_of};
+ghost use Rattle.turn_ends.specs.Score.{score_of, max_score_of};
 ghost use Rattle.cave_world.specs.declared.tables.Table.TheVariants as table;
 ghost use Rattle.turn_scene.specs.Rows.{Does, by_table};
 ghost use Rattle.turn_ends.specs.Questions.{asking_rows, die_rows, after_offer, after_question};
@@ -53,7 +56,7 @@ pub fn question_row(question: &Question) -> u8
 }
 
 /// Prints the message of a question.
-pub fn tell_question<N: RowNotes>(rules: &Rules<'_>, question: &Question, scene: &mut Scene<'_, N>)
+pub fn pose<N: RowNotes>(rules: &Rules<'_>, question: &Question, scene: &mut Scene<'_, N>)
     requires { HasRoom 1 scene.old }
     ensures scene { scene_of N.rows scene.new
         ≡ after_question (cave_of rules.now) question.now (scene_of N.rows scene.old) }
@@ -72,6 +75,19 @@ pub fn tell_question<N: RowNotes>(rules: &Rules<'_>, question: &Question, scene:
     }
 }
 
+/// Prints the score up to now, and the greatest score.
+fn tell_score_now<N: RowNotes>(rules: &Rules<'_>, scene: &mut Scene<'_, N>)
+    requires { HasRoom 1 scene.old }
+    ensures scene { scene_of N.rows scene.new ≡ after_telling (part.Number line.ScoreNow
+        (score_of (cave_of rules.now) scene.old.state.now) (max_score_of (cave_of rules.now)))
+        (scene_of N.rows scene.old) }
+    ensures says { GoesOnSaying 1 scene.old scene.new }
+{
+    let scorer = Scorer::of(rules);
+    let score = score_by(&scorer, scene.state);
+    scene.tell(Part::Number(NumberLine::ScoreNow, score, max_score_by(&scorer)));
+}
+
 /// Prints the message of a question, and the score before the question that is about it.
 #[tactic(auto, unfolding(crate::specs::Questions::asking_rows))]
 fn begin_asking<N: RowNotes>(rules: &Rules<'_>, question: &Question, scene: &mut Scene<'_, N>)
@@ -81,12 +97,10 @@ fn begin_asking<N: RowNotes>(rules: &Rules<'_>, question: &Question, scene: &mut
 {
     rows! { scene, Table::Asking;
         matches!(question, Question::ScoreQuit) => {
-            let scorer = Scorer::of(rules);
-            let score = score_by(&scorer, scene.state);
-            scene.tell(Part::Number(NumberLine::ScoreNow, score, max_score_by(&scorer)));
-            tell_question(rules, question, scene);
+            tell_score_now(rules, scene);
+            pose(rules, question, scene);
         };
-        otherwise => { tell_question(rules, question, scene); };
+        otherwise => { pose(rules, question, scene); };
     }
 }
 

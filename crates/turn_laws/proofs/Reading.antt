@@ -1,10 +1,10 @@
 -- Reading words keeps each claim, as it changes no state.
-use Rattle.std.proofs.Common.{Bool, ℕ}
-use Rattle.std.specs.Prelude.{None, Option, Some, if◌then◌else◌}
+use Rattle.std.proofs.Common.{Bool}
+use Rattle.std.specs.Prelude.{if◌then◌else◌}
 use Rattle.cave_data.specs.CaveView.{CaveView}
 use Rattle.turn_scene.specs.Rows.{Act, Deed}
 use Rattle.cave_turn.specs.ObjectWords.{object_word}
-use Rattle.cave_turn.specs.Request.{acts_by, by_object_alone, by_object_before, two_words}
+use Rattle.cave_turn.specs.Request.{by_object_alone, by_object_before, two_words}
 use Rattle.cave_turn.specs.Request.{word_alone, word_aloud, word_before, word_entered}
 use Rattle.cave_turn.specs.Request.{words_of_line}
 use Rattle.cave_turn.specs.declared.object_words.ObjectWord.{ObjectWord}
@@ -28,17 +28,13 @@ module _ {game : CaveView} {l : Line} {Q P : Claim} (k : IsKept game l Q P) wher
   unfolding object_word
   object_kept d h = search act_chosen depth 14
 
-  acting_kept : (o : Option ℕ) → Keep (acts_by o)
-  acting_kept None d h = h
-  acting_kept (Some v) d h = h
-
   found_kept : (w : ObjectWord) → Keep (by_object_alone w)
-  found_kept (ObjectWord.Is x) d h = acting_kept d.about.half.verb _ h
+  found_kept (ObjectWord.Is x) d h = h
   found_kept _ d h = h
 
   alone_kept : Keep word_alone
   unfolding word_alone
-  alone_kept d h = search (then_chosen, found_kept, object_kept, acting_kept) depth 14
+  alone_kept d h = search (then_chosen, found_kept, object_kept) depth 14
 
   before_kept : (w : ObjectWord) → Keep (by_object_before w)
   before_kept (ObjectWord.Is x) d h = alone_kept _ h

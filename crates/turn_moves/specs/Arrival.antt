@@ -39,8 +39,8 @@ unfoldable pub blocking_rows : List (Row ℕ ℕ)
 blocking_rows =
     row_then (cave_closing ∷ there_is new ∷ outside new ∷ [])
     (say role.ClosingExit ∷ panic ∷ []) here
-    ∷ row_then (no (same new here) ∷ no (forced_at here) ∷ no (place_has NoPirate here)
-    ∷ dwarf_from new ∷ []) (say role.Blocked ∷ []) here
+    ∷ row_then (dwarf_from new ∷ no (same new here) ∷ no (forced_at here)
+    ∷ no (place_has NoPirate here) ∷ []) (say role.Blocked ∷ []) here
     ∷ []
 
 -- where the player arrives

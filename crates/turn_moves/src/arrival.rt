@@ -1,26 +1,22 @@
-ghost use Rattle.std.specs.Prelude.{◌≡◌, ◌+◌, true, false, [], ◌∷◌, IsTrue};
+ghost use Rattle.std.specs.Prelude.{◌≡◌, ◌+◌, true, false, IsTrue};
 ghost use Rattle.std.specs.List.{list_any};
 ghost use Rattle.turn_scene.specs.Scene.{cave_of, scene_of};
 ghost use Rattle.cave_world.specs.State.{takes_no_command};
-ghost use Rattle.turn_scene.specs.declared.conditions.PlaceCondition.TheVariants.{NoPirate};
 ghost use Rattle.turn_scene.specs.Bounds.{GoesOnSaying, HasRoom, MovesOnSaying, SaysUpTo};
 ghost use Rattle.turn_scene.specs.Bounds.{parts_of_dwarves, parts_of_place, parts_of_passing};
 ghost use Rattle.turn_scene.specs.Bounds.{parts_of_stop, parts_of_text, parts_of_forced_motions};
 ghost use Rattle.turn_scene.specs.Bounds.{parts_of_arrival};
-ghost use Rattle.turn_scene.specs.Rows.{PlaysBy, act_of, all_hold, deed};
-ghost use Rattle.turn_scene.specs.Tests.{no, same, here, outside, there_is, cave_closing};
-ghost use Rattle.turn_scene.specs.Tests.{forced_at, place_has};
-ghost use Rattle.turn_moves.specs.Arrival.{new, comes_from, dwarf_from, block, meet, come_to};
+ghost use Rattle.turn_scene.specs.Rows.{PlaysBy, act_of};
+ghost use Rattle.turn_moves.specs.Arrival.{comes_from, block, meet, come_to};
 ghost use Rattle.turn_moves.specs.Arrival.{stop_at, after_forced_motions, after_arrival};
 ghost use Rattle.turn_moves.specs.Arrival.{after_description};
 
-use crate::description::{describe, stop_here, tell_place};
-use crate::dying::die_at;
+use crate::description::{self, stop_here};
+use crate::dying;
 use crate::journeys::set_forth;
 use cave_world::{Dwarf, Motion, PIRATE, RowNotes, Table, forced};
 use data_rows::Role;
 use turn_dwarves::encounter_dwarves;
-use turn_ends::die;
 use turn_scene::{PlaceCondition, Rules, Scene, has_condition_of, outside_place, rows};
 use world_objects::Place;
 
@@ -37,52 +33,35 @@ pub fn arrive<N: RowNotes>(rules: &Rules<'_>, place: Place, scene: &mut Scene<'_
     }
 }
 
-/// Whether a closing cave keeps the player from a place.
-fn is_shut<N: RowNotes>(rules: &Rules<'_>, place: Place, scene: &Scene<'_, N>) -> bool
-    ensures { result ≡ all_hold (cave_closing ∷ there_is new ∷ outside new ∷ [])
-        (deed (cave_of rules.now) place (scene_of N.rows scene.now)) }
-{
-    scene.state.closing.is_closing
-        && place.number() != 0
-        && place.number() <= outside_place(rules.cave).number()
-}
-
 fn comes_from(place: Place, dwarf: &Dwarf) -> bool
     ensures { result ≡ comes_from place dwarf.now }
 {
     dwarf.has_seen && dwarf.last == place
 }
 
-fn some_comes_from(place: Place, dwarves: &[Dwarf]) -> bool
+/// Whether one of the dwarves comes from a place.
+fn dwarf_from(place: Place, dwarves: &[Dwarf]) -> bool
     ensures { result ≡ list_any (comes_from place) dwarves.now }
 {
     dwarves.iter().any(|dwarf| comes_from(place, dwarf))
 }
 
-/// Whether a dwarf bars the way to a place.
-fn is_barred<N: RowNotes>(rules: &Rules<'_>, place: Place, scene: &Scene<'_, N>) -> bool
-    ensures { result ≡ all_hold (no (same new here) ∷ no (forced_at here)
-        ∷ no (place_has NoPirate here) ∷ dwarf_from new ∷ [])
-        (deed (cave_of rules.now) place (scene_of N.rows scene.now)) }
-{
-    let here = scene.state.trail.here;
-    // Most often no dwarf comes from there, and then the cave isn't asked.
-    some_comes_from(place, &scene.state.dwarves.each[..PIRATE])
-        && place != here
-        && !forced(rules.cave, here)
-        && !has_condition_of(rules, here, PlaceCondition::NoPirate)
-}
-
 /// Where the player arrives: a closing cave or a dwarf blocks the way.
 #[tactic(auto, unfolding(crate::specs::Arrival::block, crate::specs::Arrival::blocking_rows))]
-fn block<N: RowNotes>(rules: &Rules<'_>, place: Place, scene: &mut Scene<'_, N>) -> Place
+fn block<N: RowNotes>(rules: &Rules<'_>, new: Place, scene: &mut Scene<'_, N>) -> Place
     requires { HasRoom 1 scene.old }
-    ensures row { PlaysBy N.rows block 1 rules.now place scene.old scene.new result }
+    ensures row { PlaysBy N.rows block 1 rules.now new scene.old scene.new result }
 {
-    rows! { scene, Table::Blocking, place;
-        is_shut(rules, place, scene)
+    rows! { scene, Table::Blocking, new;
+        scene.state.closing.is_closing && new.number() != 0
+            && new.number() <= outside_place(rules.cave).number()
             => say(Role::ClosingExit), panic(rules) -> scene.state.trail.here;
-        is_barred(rules, place, scene) => say(Role::Blocked) -> scene.state.trail.here;
+        let here = scene.state.trail.here;
+        // Most often no dwarf comes from there, and then the cave isn't asked.
+        dwarf_from(new, &scene.state.dwarves.each[..PIRATE]) && new != here
+            && !forced(rules.cave, here)
+            && !has_condition_of(rules, here, PlaceCondition::NoPirate)
+            => say(Role::Blocked) -> here;
     }
 }
 
@@ -98,9 +77,10 @@ fn come_to<N: RowNotes>(rules: &Rules<'_>, place: Place, scene: &mut Scene<'_, N
     scene.put_player_at(place);
     let here = scene.state.trail.here;
     rows! { scene, Table::Arrival, false;
-        here.number() == 0 => { die(rules, scene); };
-        forced(rules.cave, here) => { tell_place(rules, scene); } -> true;
-        has_condition_of(rules, here, PlaceCondition::NoPirate) => { describe(rules, scene); };
+        here.number() == 0 => turn_ends::die(rules);
+        forced(rules.cave, here) => description::tell_place(rules) -> true;
+        has_condition_of(rules, here, PlaceCondition::NoPirate)
+            => description::describe_place(rules);
         in meet(rules, scene);
     }
 }
@@ -114,8 +94,8 @@ fn meet<N: RowNotes>(rules: &Rules<'_>, scene: &mut Scene<'_, N>) -> bool
     ensures still { result ≡ false }
 {
     rows! { scene, Table::Hits, false;
-        encounter_dwarves(rules, scene) => { die_at(rules, scene.state.trail.here, scene); };
-        otherwise => { describe(rules, scene); };
+        encounter_dwarves(rules, scene) => dying::die_at(rules, scene.state.trail.here);
+        otherwise => description::describe_place(rules);
     }
 }
 

@@ -42,14 +42,12 @@ pub fn cross_bridge<N: RowNotes>(rules: &Rules<'_>, scene: &mut Scene<'_, N>) ->
         Some(end) => rows! { scene, Table::Bridge;
             from 2;
             has_prop(scene.state, rules.thing(Named::Troll), TROLL_RETURNING)
-                => { demand_toll(rules, scene); } -> scene.state.trail.here;
+                => self::demand_toll(rules) -> scene.state.trail.here;
             let was_calm = pass_troll(rules, scene.state);
             !is_carried(rules, scene.state, rules.thing(Named::Bear))
-                => { note_toll(was_calm, scene); } -> end;
-            otherwise => {
-                note_toll(was_calm, scene);
-                break_bridge(rules, end, scene);
-            } -> scene.state.trail.here;
+                => self::note_toll(was_calm) -> end;
+            otherwise => self::note_toll(was_calm), self::break_bridge(rules, end)
+                -> scene.state.trail.here;
         },
     }
 }
@@ -90,7 +88,7 @@ fn demand_toll<N: RowNotes>(rules: &Rules<'_>, scene: &mut Scene<'_, N>)
     scene.destroy(second);
     scene.loosen(second);
     scene.move_to(troll, home(rules, troll));
-    scene.state.objects.anchor_to(troll, hold(rules, troll));
+    scene.attach(troll, hold(rules, troll));
     scene.juggle(rules.thing(Named::Chasm));
 }
 

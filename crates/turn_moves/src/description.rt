@@ -7,12 +7,12 @@ ghost use Rattle.turn_scene.specs.Rows.{Does, PlaysBy, by_table};
 ghost use Rattle.turn_moves.specs.Description.{bear_rows, text_rows, hollow_rows, tell_place};
 ghost use Rattle.turn_moves.specs.Description.{see_place, feel_place, after_describe, stop_here};
 
-use crate::dying::die_at;
+use crate::dying;
 use crate::objects::tell_objects;
 use cave_words::Named;
 use cave_world::{Part, RowNotes, Table, forced};
 use data_rows::{PlaceRole, Role};
-use turn_scene::{Rules, Scene, is_place, place_named, rows};
+use turn_scene::{Rules, Scene, is_player_at, rows};
 
 /// Prints what is seen at the player's place. Returns whether a forced motion moves the player on
 /// from there.
@@ -23,8 +23,8 @@ pub fn stop_here<N: RowNotes>(rules: &Rules<'_>, scene: &mut Scene<'_, N>) -> bo
     ensures few_on { IsTrue result → SaysUpTo parts_of_text scene.old scene.new }
 {
     rows! { scene, Table::Stops, false;
-        forced(rules.cave, scene.state.trail.here) => { tell_place(rules, scene); } -> true;
-        otherwise => { describe(rules, scene); };
+        forced(rules.cave, scene.state.trail.here) => self::tell_place(rules) -> true;
+        otherwise => self::describe_place(rules);
     }
 }
 
@@ -66,19 +66,17 @@ fn feel_place<N: RowNotes>(rules: &Rules<'_>, scene: &mut Scene<'_, N>)
 /// Describes the player's place, which has no forced motion. A player who goes on in the dark may
 /// fall into a pit.
 #[tactic(auto, unfolding(crate::specs::Description::after_describe, crate::specs::Description::description_rows))]
-pub fn describe<N: RowNotes>(rules: &Rules<'_>, scene: &mut Scene<'_, N>)
+pub fn describe_place<N: RowNotes>(rules: &Rules<'_>, scene: &mut Scene<'_, N>)
     requires { HasRoom parts_of_place scene.old }
     ensures scene { scene_of N.rows scene.new
         ≡ after_describe (cave_of rules.now) (scene_of N.rows scene.old) }
     ensures says { GoesOnSaying parts_of_place scene.old scene.new }
 {
     rows! { scene, Table::Description;
-        !scene.state.dark(rules.cave, rules.thing(Named::Lamp)) => { see_place(rules, scene); };
-        scene.was_dark && scene.happens(35) => {
-            scene.say(Role::Pit);
-            die_at(rules, scene.state.trail.here, scene);
-        };
-        otherwise => { feel_place(rules, scene); };
+        !scene.state.dark(rules.cave, rules.thing(Named::Lamp)) => self::see_place(rules);
+        scene.was_dark && scene.happens(35)
+            => say(Role::Pit), dying::die_at(rules, scene.state.trail.here);
+        otherwise => self::feel_place(rules);
     }
 }
 
@@ -120,7 +118,7 @@ fn tell_hollow<N: RowNotes>(rules: &Rules<'_>, scene: &mut Scene<'_, N>)
         scene.new }
 {
     rows! { scene, Table::Hollow;
-        is_place(scene.state.trail.here, place_named(rules.cave, PlaceRole::Y2))
+        is_player_at(rules, scene.state, PlaceRole::Y2)
             && !scene.state.closing.is_closing && scene.happens(25) => say(Role::Hollow);
     }
 }

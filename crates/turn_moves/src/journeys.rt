@@ -4,16 +4,16 @@ ghost use Rattle.turn_scene.specs.Scene.{cave_of, scene_of};
 ghost use Rattle.cave_world.specs.Motions.{motion_number};
 ghost use Rattle.cave_world.specs.State.{takes_no_command};
 ghost use Rattle.turn_scene.specs.Bounds.{GoesOnSaying, HasRoom, SaysUpTo, parts_of_journey};
-ghost use Rattle.turn_scene.specs.Rows.{PlaysBy, act_of};
+ghost use Rattle.turn_scene.specs.Rows.{Does, PlaysBy, act_of};
 ghost use Rattle.turn_moves.specs.Journeys.{after_refusal, journey_of_outcome, journey_by_rows};
-ghost use Rattle.turn_moves.specs.Journeys.{set_forth, own_motion};
+ghost use Rattle.turn_moves.specs.Journeys.{look_round, set_forth, own_motion};
 ghost use Rattle.turn_moves.specs.Journeys.{parts_of_own_motion, journey_by_request};
 
 use crate::back::go_back;
 use crate::bridge::cross_bridge;
 use crate::squeeze::squeeze_through;
 use cave_words::Named;
-use cave_world::{MAX_DETAILS, Motion, Outcome, Part, RowNotes, Table, note_travel};
+use cave_world::{MAX_DETAILS, Motion, Outcome, RowNotes, Table, note_travel};
 use data_rows::{Role, Special};
 use turn_scene::{Rules, Scene, outside_place, rows};
 use world_objects::Place;
@@ -40,7 +40,7 @@ pub fn journey_by_request<N: RowNotes>(
 
 /// What a motion that the player asks for does. Returns the motion by which the player travels, if
 /// by any.
-#[tactic(auto, unfolding(crate::specs::Journeys::own_motion, crate::specs::Journeys::look_round, crate::specs::Journeys::enough_rows))]
+#[tactic(auto, unfolding(crate::specs::Journeys::own_motion))]
 fn own_motion<N: RowNotes>(rules: &Rules<'_>, motion: u16, scene: &mut Scene<'_, N>) -> Option<u16>
     requires { HasRoom 1 scene.old }
     ensures row { PlaysBy N.rows own_motion (parts_of_own_motion result) rules.now motion scene.old
@@ -48,17 +48,7 @@ fn own_motion<N: RowNotes>(rules: &Rules<'_>, motion: u16, scene: &mut Scene<'_,
 {
     rows! { scene, Table::OwnMotions, None;
         motion == Motion::Nowhere.number() => {};
-        motion == Motion::Look.number() => {
-            rows! { scene, Table::Enough;
-                scene.state.talk.details.number() < MAX_DETAILS => {
-                    scene.say(Role::Enough);
-                    scene.state.talk.details = scene.state.talk.details.up();
-                };
-            }
-            scene.was_dark = false;
-            let here = scene.state.trail.here;
-            scene.state.forget_visits(here);
-        };
+        motion == Motion::Look.number() => self::look_round(rules, motion);
         let is_cave = motion == Motion::Cave.number();
         is_cave && scene.state.trail.here.number() < outside_place(rules.cave).number()
             => say(Role::CaveOut);
@@ -66,6 +56,23 @@ fn own_motion<N: RowNotes>(rules: &Rules<'_>, motion: u16, scene: &mut Scene<'_,
         motion == Motion::Back.number() => {} -> go_back(rules, scene);
         otherwise => {} -> Some(motion);
     }
+}
+
+/// The player looks round, and the place will be described at length.
+#[tactic(auto, unfolding(crate::specs::Journeys::look_round, crate::specs::Journeys::enough_rows))]
+fn look_round<N: RowNotes>(rules: &Rules<'_>, motion: u16, scene: &mut Scene<'_, N>)
+    requires { HasRoom 1 scene.old }
+    ensures effects { Does N.rows look_round 1 rules.now motion scene.old scene.new }
+{
+    rows! { scene, Table::Enough;
+        scene.state.talk.details.number() < MAX_DETAILS => {
+            scene.say(Role::Enough);
+            scene.state.talk.details = scene.state.talk.details.up();
+        };
+    }
+    scene.was_dark = false;
+    let here = scene.state.trail.here;
+    scene.state.forget_visits(here);
 }
 
 /// Whether a motion is one of those.
@@ -125,7 +132,7 @@ fn journey_of_outcome<N: RowNotes>(
             Special::Bridge => cross_bridge(rules, scene),
         },
         Outcome::Say(message) => {
-            scene.tell(Part::Message(message));
+            scene.tell_message(message);
             scene.state.trail.here
         }
         Outcome::NoMotion => {

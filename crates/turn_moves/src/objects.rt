@@ -3,13 +3,14 @@ ghost use Rattle.world_objects.specs.Lists.{halves_at, last_half};
 ghost use Rattle.turn_scene.specs.Scene.{cave_of, scene_of};
 ghost use Rattle.turn_scene.specs.Bounds.{GoesOnSaying, HasRoom};
 ghost use Rattle.cave_world.specs.declared.tables.Table.TheVariants as table;
+ghost use Rattle.turn_scene.specs.Effects.{Changes};
 ghost use Rattle.turn_scene.specs.Rows.{Does, deed, by_table};
 ghost use Rattle.world_objects.specs.Props.{HIGHEST_PROP, LOWEST_PROP};
 ghost use Rattle.turn_moves.specs.Objects.{is_second_here, with_short_lamp, object_text_rows};
 ghost use Rattle.turn_moves.specs.Objects.{find_treasure, after_object, after_all_objects};
 
 use cave_words::Named;
-use cave_world::{Charge, Part, RowNotes, State, Table};
+use cave_world::{Charge, Part, RowNotes, Table};
 use turn_scene::props::{SEEN, SEEN_FASTENED, STEPS_FROM_ABOVE};
 use turn_scene::{Rules, Scene, rows};
 use world_objects::{Half, Object};
@@ -31,9 +32,9 @@ fn tell_object<N: RowNotes>(rules: &Rules<'_>, object: Object, scene: &mut Scene
         let is_unseen = scene.state.objects.prop(object).value() < 0;
         is_unseen && scene.state.closing.is_closed => {};
         is_unseen && (object == rules.thing(Named::Rug) || object == rules.thing(Named::Chain))
-            => { find_treasure(rules, object, SEEN_FASTENED, scene); };
-        is_unseen => { find_treasure(rules, object, SEEN, scene); };
-        otherwise => { tell_object_text(rules, object, scene); };
+            => self::find_treasure(rules, object, SEEN_FASTENED);
+        is_unseen => self::find_treasure(rules, object, SEEN);
+        otherwise => self::tell_object_text(rules, object);
     }
 }
 
@@ -50,17 +51,17 @@ fn find_treasure<N: RowNotes>(rules: &Rules<'_>, object: Object, prop: i8, scene
     let unseen = scene.state.tallies.unseen.number();
     rows! { scene, Table::LastTreasure;
         unseen == scene.state.tallies.lost.number() && unseen != 0
-            => { shorten_lamp(scene.state); };
+            => self::shorten_lamp();
     }
     tell_object_text(rules, object, scene);
 }
 
 /// The lamp doesn't burn for long any more.
-fn shorten_lamp(state: &mut State)
-    ensures { state.new ≡ with_short_lamp state.old }
+fn shorten_lamp<N: RowNotes>(scene: &mut Scene<'_, N>)
+    ensures { Changes N.rows with_short_lamp scene.old scene.new }
 {
-    let turns = state.lamp.charge.turns();
-    state.lamp.charge = Charge::new(turns.min(SHORT_LAMP));
+    let turns = scene.state.lamp.charge.turns();
+    scene.state.lamp.charge = Charge::new(turns.min(SHORT_LAMP));
 }
 
 fn is_second_here<N: RowNotes>(rules: &Rules<'_>, object: Object, scene: &Scene<'_, N>) -> bool

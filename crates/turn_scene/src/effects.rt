@@ -1,5 +1,6 @@
 //! What rows do to a scene, by the words of the definitions.
 
+ghost use Rattle.cave_world.specs.State.{with_hint_taken};
 ghost use Rattle.turn_scene.specs.Effects.{Changes, after_sending};
 ghost use Rattle.turn_scene.specs.Parts.{with_objects, with_one_more_lost};
 ghost use Rattle.turn_scene.specs.Places.{place_named};
@@ -11,7 +12,7 @@ ghost use Rattle.world_objects.specs.declared.spot.Anchor.TheVariants as anchor_
 use crate::places::place_named;
 use crate::rules::Rules;
 use crate::scene::Scene;
-use cave_world::RowNotes;
+use cave_world::{HintNumber, RowNotes};
 use data_rows::PlaceRole;
 use world_objects::{Anchor, Object, Place, Prop};
 
@@ -61,12 +62,20 @@ impl<'a, N: RowNotes> Scene<'a, N> {
         }
     }
 
+    /// What holds an object from now on.
+    pub fn attach(&mut self, object: Object, anchor: Anchor)
+        ensures { Changes N.rows (λ s. with_objects (with_anchor s.objects object anchor) s)
+            self.old self.new }
+    {
+        self.state.objects.anchor_to(object, anchor);
+    }
+
     /// An object can't be moved any more.
     pub fn fix(&mut self, object: Object)
         ensures { Changes N.rows (λ s. with_objects (with_anchor s.objects object anchor_is.Fixed) s)
             self.old self.new }
     {
-        self.state.objects.anchor_to(object, Anchor::Fixed);
+        self.attach(object, Anchor::Fixed);
     }
 
     /// An object can be moved again.
@@ -74,7 +83,7 @@ impl<'a, N: RowNotes> Scene<'a, N> {
         ensures { Changes N.rows (λ s. with_objects (with_anchor s.objects object anchor_is.Loose) s)
             self.old self.new }
     {
-        self.state.objects.anchor_to(object, Anchor::Loose);
+        self.attach(object, Anchor::Loose);
     }
 
     /// Both halves of an object move to the front of their lists.
@@ -100,5 +109,12 @@ impl<'a, N: RowNotes> Scene<'a, N> {
         ensures { Changes N.rows with_one_more_lost self.old self.new }
     {
         self.state.tallies.lost = self.state.tallies.lost.up();
+    }
+
+    /// A hint is taken.
+    pub fn take_hint(&mut self, hint: HintNumber)
+        ensures { Changes N.rows (with_hint_taken hint) self.old self.new }
+    {
+        self.state.take_hint(hint);
     }
 }

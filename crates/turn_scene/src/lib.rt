@@ -23,9 +23,13 @@ pub mod troll;
 pub use conditions::{PlaceCondition, has_condition_of};
 pub use homes::{hold, home, is_at_home, is_home_elsewhere, is_home_here, second_home};
 pub use liquids::{is_liquid, lake, liquid};
-pub use places::{building_place, deep_place, is_place, outside_place, place_named, start_place};
+pub use places::{
+    building_place, is_bound, is_in_the_depths, is_place, is_player_at, outside_place, place_named,
+    start_place,
+};
 pub use reach::{
-    has_other_prop, has_prop, has_prop_up_to, is_carried, is_dwarf_here, is_fixed, is_near,
+    has_other_prop, has_prop, has_prop_from, has_prop_up_to, is_carried, is_dwarf_here, is_fixed,
+    is_near,
 };
 pub use rules::Rules;
 pub use scene::Scene;

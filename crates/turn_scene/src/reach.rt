@@ -1,5 +1,6 @@
-ghost use Rattle.std.specs.Prelude.{◌≡◌};
+ghost use Rattle.std.specs.Prelude.{◌≡◌, ◌==◌, ◌&&◌, not, int_le};
 ghost use Rattle.std.specs.List.{list_any};
+ghost use Rattle.world_objects.specs.Objects.{prop_of};
 ghost use Rattle.turn_scene.specs.Scene.{cave_of};
 ghost use Rattle.turn_scene.specs.Reach.{is_carried, is_near, is_fixed, has_prop, has_other_prop};
 ghost use Rattle.turn_scene.specs.Reach.{has_prop_up_to, is_dwarf_at, is_dwarf_here};
@@ -53,6 +54,13 @@ pub fn has_prop_up_to(state: &State, object: Object, most: i8) -> bool
     ensures { result ≡ has_prop_up_to state.now object most }
 {
     !object.is_none() && state.objects.prop(object).value() <= most
+}
+
+/// Whether there is the object, and its prop is at least a number.
+pub fn has_prop_from(state: &State, object: Object, least: i8) -> bool
+    ensures { result ≡ (not (object == 0) && int_le least (prop_of state.now.objects object)) }
+{
+    !object.is_none() && least <= state.objects.prop(object).value()
 }
 
 fn is_at(place: Place, dwarf: &Dwarf) -> bool

@@ -9,21 +9,23 @@
 ///         otherwise => task.default(rules);
 ///     }
 ///
-/// An effect is a method of the scene, or a method of something else that takes the scene last. A
-/// block in place of effects is plain code: `{}` does nothing. Between rows, `let` names what those
-/// below it ask, `from 8` gives the next row its number, and what stands after `in` has rows of its
-/// own, and takes no number. Each list of numbers below is for a part of a table that begins with
-/// its first number: such a part has at most as many rows as the list has numbers.
+/// An effect is a method of the scene, or what takes the scene last: a method of something else, or
+/// a function named by its module, such as `lamp::go_out(rules)`. A block in place of effects is
+/// plain code: `{}` does nothing. Between rows, `let` names what those below it ask, `from 8` gives
+/// the next row its number, and what stands after `in` has rows of its own, and takes no number.
+/// Each list of numbers below is for a part of a table that begins with its first number: such a
+/// part has at most as many rows as the list has numbers.
 #[macro_export]
 macro_rules! rows {
     (@effect $scene:ident $word:ident ($($arg:expr),*)) => { $scene.$word($($arg),*) };
     (@effect $scene:ident $of:ident.$word:ident($($arg:expr),*)) => { $of.$word($($arg,)* $scene) };
+    (@effect $scene:ident $of:ident::$do:ident($($arg:expr),*)) => { $of::$do($($arg,)* $scene) };
     (@follows $then:expr) => { $then };
     (@follows $then:expr, $own:expr) => { $own };
     (@row ($scene:ident $table:expr, $then:expr) $number:literal
-        $($word:ident $(.$of:ident)? ($($arg:expr),*)),+ $(-> $own:expr)?;) => {{
+        $($word:ident $(.$of:ident)? $(::$item:ident)? ($($arg:expr),*)),+ $(-> $own:expr)?;) => {{
         $scene.note($table, $number);
-        $($crate::rows!(@effect $scene $word $(.$of)? ($($arg),*));)+
+        $($crate::rows!(@effect $scene $word $(.$of)? $(::$item)? ($($arg),*));)+
         $crate::rows!(@follows $then $(, $own)?)
     }};
     (@row ($scene:ident $table:expr, $then:expr) $number:literal
@@ -56,9 +58,11 @@ macro_rules! rows {
         }
     };
     (@rows $head:tt [$number:literal $($numbers:literal)*] $test:expr =>
-        $($word:ident $(.$of:ident)? ($($arg:expr),*)),+ $(-> $own:expr)?; $($rows:tt)*) => {
+        $($word:ident $(.$of:ident)? $(::$item:ident)? ($($arg:expr),*)),+ $(-> $own:expr)?;
+        $($rows:tt)*) => {
         if $test {
-            $crate::rows!(@row $head $number $($word $(.$of)? ($($arg),*)),+ $(-> $own)?;)
+            $crate::rows!(@row $head $number
+                $($word $(.$of)? $(::$item)? ($($arg),*)),+ $(-> $own)?;)
         } else {
             $crate::rows!(@rows $head [$($numbers)*] $($rows)*)
         }

@@ -24,6 +24,7 @@ pub struct Scene<'a, N: RowNotes> {
 }
 
 impl<'a, N: RowNotes> Scene<'a, N> {
+    ghost use Rattle.cave_world.specs.declared.part.Part.TheVariants as part;
     ghost use Rattle.turn_scene.specs.Bounds.{GoesOnSaying, HasRoom};
     ghost use Rattle.turn_scene.specs.Scene.{scene_of, GoesOn, scene_at_start, after_telling};
     ghost use Rattle.turn_scene.specs.Scene.{after_row};
@@ -82,6 +83,17 @@ impl<'a, N: RowNotes> Scene<'a, N> {
         ensures few { array_vec_len self.new.out.now ≡ array_vec_len self.old.out.now + 1 }
     {
         self.tell(Part::Role(role));
+    }
+
+    /// Says a message of the cave.
+    pub fn tell_message(&mut self, message: u16)
+        requires { HasRoom 1 self.old }
+        ensures scene { scene_of N.rows self.new
+            ≡ after_telling (part.Message message) (scene_of N.rows self.old) }
+        ensures same { GoesOn self.old self.new }
+        ensures few { array_vec_len self.new.out.now ≡ array_vec_len self.old.out.now + 1 }
+    {
+        self.tell(Part::Message(message));
     }
 
     /// The text of an object for a number is printed, if there is the object.

@@ -24,7 +24,7 @@ impl<'a, N: RowNotes> Scene<'a, N> {
         self.destroy(troll);
         self.loosen(troll);
         self.move_to(second, home(rules, troll));
-        self.state.objects.anchor_to(second, hold(rules, troll));
+        self.attach(second, hold(rules, troll));
         self.juggle(rules.thing(Named::Chasm));
     }
 }

@@ -1,12 +1,14 @@
 use Rattle.cave_play.proofs.SourceLemmas.{once, goes_on, after_bindings, after_database, said}
 use Rattle.cave_play.proofs.SourceLemmas.{same_bindings, some_bytes}
-use Rattle.std.proofs.Common.{◌≡◌, ◌⊎◌, Some, subst, ◌∙◌}
+use Rattle.std.proofs.Common.{◌≡◌, ℕ, List, subst, ◌∙◌}
+use Rattle.std.specs.Prelude.{◌⊎◌}
 use Rattle.std.proofs.lemmas.Result.{err_from_is_err_and}
-use Rattle.cave_data.specs.Reads.{Reads}
-use Rattle.cave_play.specs.Stages.{inputs_fault}
-use Rattle.cave_play.specs.declared.fault.PlayFault.TheVariants as fault
+use Rattle.cave_data.specs.Faults.{FaultIs}
+use Rattle.cave_data.specs.Reads.{Reads, fault}
+use Rattle.cave_play.specs.Stages.{cave_refusal}
+use Rattle.cave_play.specs.declared.fault.PlayFault.TheVariants.{Memory}
 use Rattle.cave_play.proofs.JudgeLemmas.{IsFoundIn-bindings, IsFoundIn-database, IsFoundIn-inputs}
-use Rattle.cave_play.proofs.JudgeLemmas.{cave_stages-read}
+use Rattle.cave_play.proofs.JudgeLemmas.{cave_stages-read, inputs_fault-some}
 use Rattle.cave_play.proofs.judge.read_cave.Goals as goal
 
 pub returns-in_err-database : goal.returns-in_err-database
@@ -59,7 +61,7 @@ returns-in-Ok g c =
     let reads =
     subst (λ d. Reads d bindings cave) (c.deref.ensures.value ∙ read.0)
     (subst (λ b. Reads c.deref.result.now b cave) (c.deref-2.ensures.value ∙ more.0)
-    c.in-Ok.ensures) in
+    c.in-Ok.ensures.found) in
     record {
       judged = (
         database,
@@ -82,12 +84,18 @@ returns-in-Err g c =
     let (database, one, read) = c.in_ok-database.ensures.read in
     let (bindings, two, more) = c.in_ok-bindings.ensures.read in
     let taken = c.in_ok-database.ensures.taken in
-    let found = c.in-Err.fault in
+    let error = c.in-Err.error in
+    let found = c.cave_refusal.result in
+    let of_fault =
+    subst (λ (b : List ℕ × List ℕ). FaultIs error (fault b.0 b.1))
+    (λ i. ((c.deref.ensures.value ∙ read.0) i, (c.deref-2.ensures.value ∙ more.0) i))
+    c.in-Err.ensures.fault in
+    let told =
+    subst (λ (b : List ℕ × List ℕ). (found ≡ Memory) ⊎ (found ≡ cave_refusal b.0 b.1 error))
+    (λ i. ((c.deref-in-Err.ensures.value ∙ read.0) i, (c.deref-in-Err-2.ensures.value ∙ more.0) i))
+    c.cave_refusal.ensures.told in
     let refused =
-    subst (λ d. (found ≡ fault.Memory) ⊎ (inputs_fault d bindings ≡ Some found))
-    (c.deref.ensures.value ∙ read.0)
-    (subst (λ b. (found ≡ fault.Memory) ⊎ (inputs_fault c.deref.result.now b ≡ Some found))
-    (c.deref-2.ensures.value ∙ more.0) c.in-Err.ensures) in
+    inputs_fault-some database bindings error found of_fault c.cave_refusal.ensures.memory told in
     record {
       judged = (
         database,

@@ -47,7 +47,7 @@ pub returns : goal.returns
 returns g c =
     let held = g.I.Sources.held c.args.inputs.now in
     let (database, bindings, one, two, read) = c.in_ok-read.ensures.judged in
-    let (moves, three, played) = c.play_in_cave-made.ensures.judged in
+    let (moves, three, played) = c.play_view_text-made.ensures.judged in
     let cave = cave_stages database bindings in
     let log = log_stage moves ∷ [] in
     record {
@@ -70,5 +70,5 @@ returns g c =
             (λ text is. (c.in_ok-read.read.cave, read.1.reads, is)) played),
       );
       leads = goes_on g.I.Sources.Reads _ _ _ c.in_ok-read.ensures.leads
-          c.play_in_cave-made.ensures.leads;
+          c.play_view_text-made.ensures.leads;
     }

@@ -1,13 +1,18 @@
-use Rattle.std.proofs.Common.{◌≡◌, [], Result, subst, sym}
-use Rattle.std.specs.Prelude.{IfOk}
+use Rattle.std.proofs.Common.{◌≡◌, [], Result, ap, subst, sym, ◌∙◌}
+use Rattle.std.specs.Prelude.{IfOk, unwrap_or}
+use Rattle.check_tables.specs.Known.{known_entries}
+use Rattle.play_command.specs.declared.line.Input.TheVariants as input
+use Rattle.play_cover.specs.Plays.{IsCovered, cover_stages}
+use Rattle.cave_play.specs.Logs.{IsMadeReport, JudgesLogs}
 use Rattle.cave_play.specs.Sources.{InputTexts, next_log}
 use Rattle.cave_play.specs.declared.logs.LogsFault.{LogsFault}
 use Rattle.cave_play.proofs.LogLemmas.{AllSay-some}
 use Rattle.cave_play.proofs.SourceLemmas.{said, some_bytes}
+use Rattle.play_program.specs.Files.{file_of}
 use Rattle.play_program.specs.Making.{HasReadAll}
 use Rattle.play_program.specs.declared.make.Made.{Made}
-use Rattle.play_program.proofs.MakeLemmas.{IsCoverage-asked, IsJudged, all_of_cover, all_of_map}
-use Rattle.play_program.proofs.MakeLemmas.{any_ok}
+use Rattle.play_program.proofs.MakeLemmas.{IsJudged, all_of_cover, all_of_map, any_ok}
+use Rattle.play_program.proofs.MakeLemmas.{now_of_name}
 use Rattle.play_program.proofs.make.make.Goals as goal
 
 pub returns-in-Check : goal.returns-in-Check
@@ -60,16 +65,34 @@ returns-in-Play g c =
       leads = c.make_play.ensures.leads;
     })
 
-pub returns-in-Edit : goal.returns-in-Edit
-returns-in-Edit g c =
+pub returns-in-Script-edits_from : goal.returns-in-Script-edits_from
+returns-in-Script-edits_from g c =
     let held = g.I.Sources.held c.args.inputs.now in
-    let (texts, are, made) = c.make_edits.ensures.judged in
+    let (texts, are, made) = c.make_edit.ensures.judged in
     let (logs, said) = AllSay-some held.logs in
-    rw c.in-Edit.is
+    rw (c.in-Edit.is, c.in-Script-edits_from.is)
     (record {
-      judged = (texts, logs, are, said, (c.make_edits.result, c.of_edits.ensures, made));
+      judged = (texts, logs, are, said, (c.make_edit.result, c.of_edits.ensures, made));
       all = any_ok c.of_edits.result;
-      leads = c.make_edits.ensures.leads;
+      leads = c.make_edit.ensures.leads;
+    })
+
+pub returns-in-NewLog : goal.returns-in-NewLog
+returns-in-NewLog g c =
+    let held = g.I.Sources.held c.args.inputs.now in
+    let (texts, are, made) = c.make_edit_to.ensures.judged in
+    let (logs, said) = AllSay-some held.logs in
+    rw (c.in-Edit.is, c.in-NewLog.is)
+    (record {
+      judged = (
+        texts,
+        logs,
+        are,
+        said,
+        (c.make_edit_to.result, c.of_edits-in-NewLog.ensures, made),
+      );
+      all = any_ok c.of_edits-in-NewLog.result;
+      leads = c.make_edit_to.ensures.leads;
     })
 
 pub returns-in-Script : goal.returns-in-Script
@@ -96,6 +119,10 @@ returns-in-Cover g c =
       log = some_bytes (next_log held.logs);
       script = list;
     } in
+    let known : c.unwrap_or-known.result.now
+    ≡ unwrap_or (file_of c.args.request.now input.Known 0) [] =
+    ap (λ s. s.now) c.unwrap_or-known.ensures ∙ now_of_name c.file_of.result _
+    ∙ ap (λ name. unwrap_or name []) c.file_of.ensures in
     record {
       judged = subst (λ what. IsJudged what c.args.request.now held c.of_cover.result)
           (sym c.in-Cover.is) (
@@ -108,10 +135,14 @@ returns-in-Cover g c =
               script = three;
             },
             last,
-            IsCoverage-asked c.args.request.now texts logs c.in-Cover.seed c.in-Cover.view
-                c.in-Cover.strict c.cover_asked-asked.result c.cover_asked-asked.ensures.seed
-                c.cover_asked-asked.ensures.view c.cover_asked-asked.ensures.known
-                c.make_cover.result c.of_cover.result c.of_cover.ensures made,
+            (
+              c.make_cover.result,
+              c.of_cover.ensures,
+              subst (λ name. JudgesLogs
+                  (cover_stages database bindings list c.in-Cover.seed) logs
+                  (IsMadeReport (IsCovered database bindings (known_entries name list) logs
+                  c.in-Cover.seed c.in-Cover.view)) c.make_cover.result) known made,
+            ),
           );
       all = subst (λ what. IfOk c.of_cover.result (λ _. HasReadAll what left.logs)) (sym c.in-Cover.is)
           (subst (λ (m : Result Made LogsFault). IfOk m (λ _. left.logs ≡ []))

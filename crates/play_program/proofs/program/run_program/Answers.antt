@@ -1,15 +1,30 @@
-use Rattle.std.proofs.Common.{map, string_bytes, subst}
-use Rattle.play_program.specs.Ends.{EndsWords}
+use Rattle.std.proofs.Common.{map, refl, string_bytes, subst}
+use Rattle.play_command.specs.Line.{IsAnswer}
 use Rattle.play_program.proofs.program.run_program.Goals as goal
+
+pub returns-in-Ok-Run-clause-words : goal.returns-in-Ok-Run-clause-words
+returns-in-Ok-Run-clause-words g c =
+    rw c.in-Ok.is (
+      c.command_line.result,
+      subst (λ words. IsAnswer (map string_bytes words) c.command_line.result)
+          c.as_slice.ensures.value c.command_line.ensures,
+      rw (c.in-Ok-Run.is, c.in-Ok-Run.field-0-is) c.run.ensures.ends,
+    )
+
+pub returns-in-Ok-Text-clause-words : goal.returns-in-Ok-Text-clause-words
+returns-in-Ok-Text-clause-words g c =
+    rw c.in-Ok.is (
+      c.command_line.result,
+      subst (λ words. IsAnswer (map string_bytes words) c.command_line.result)
+          c.as_slice.ensures.value c.command_line.ensures,
+      rw (c.in-Ok-Text.is, c.in-Ok-Text.field-0-is) c.print.ensures.ends,
+    )
 
 pub returns-in-Ok-clause-words : goal.returns-in-Ok-clause-words
 returns-in-Ok-clause-words g c =
-    let system = c.args.system.now in
-    let words =
-    subst
-    (λ given. EndsWords (map string_bytes given) (g.S.System.one_file system)
-    (g.S.System.bytes_of system) (g.S.System.calls system) (g.S.System.calls c.begin.new.system)
-    (g.W.Write.contents c.args.output.now.writer) (g.W.Write.contents c.begin.new.output.writer)
-    c.begin.new.output.reason c.begin.result)
-    c.as_slice.ensures.value c.begin.ensures.ends in
-    rw c.in-Ok.is words
+    rw c.in-Ok.is (
+      c.command_line.result,
+      subst (λ words. IsAnswer (map string_bytes words) c.command_line.result)
+          c.as_slice.ensures.value c.command_line.ensures,
+      rw c.in-Err-command_line.is (refl, c.refuse.ensures.ends),
+    )

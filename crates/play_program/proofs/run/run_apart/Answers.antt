@@ -15,7 +15,7 @@ returns-in_err-made g c =
     rw (exit.1, exit.2)
     (inl (
       c.in_ok-check_output.ensures,
-      (_, Err _, c.in_err-made.ensures, (refl, refl, refl)),
+      (_, Err _, c.in_err-made.ensures, ((refl, refl), refl)),
     ))
 
 pub returns-in_err-deliver : goal.returns-in_err-deliver
@@ -25,7 +25,7 @@ returns-in_err-deliver g c =
     rw (exit.1, exit.2)
     (inl (
       c.in_ok-check_output.ensures,
-      (_, Ok c.in_ok-made.made, c.in_ok-made.ensures, (Err _, c.in_err-deliver.ensures, refl)),
+      (_, Ok c.in_ok-made.made, c.in_ok-made.ensures, (Err _, c.in_err-deliver.ensures, (tt, refl))),
     ))
 
 pub returns-in-Some : goal.returns-in-Some
