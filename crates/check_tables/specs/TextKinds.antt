@@ -24,7 +24,9 @@ kind_number TextKind.Class = 6
 
 -- the kinds in the order of the sections
 abbrev pub kinds : List TextKind
-kinds = TextKind.Long ∷ TextKind.Short ∷ TextKind.Look ∷ TextKind.Name ∷ TextKind.Message ∷ TextKind.Role ∷ TextKind.Class ∷ []
+kinds =
+    TextKind.Long ∷ TextKind.Short ∷ TextKind.Look ∷ TextKind.Name ∷ TextKind.Message
+    ∷ TextKind.Role ∷ TextKind.Class ∷ []
 
 abbrev pub heading_of_kind : TextKind → List ℕ
 heading_of_kind TextKind.Long = codes "long texts"

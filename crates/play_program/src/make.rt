@@ -104,7 +104,8 @@ pub(crate) fn make<I: Sources>(
         ≡ length (I.held inputs.old).logs }
     ensures judged { (texts : InputTexts) × (logs : List (List ℕ))
         × AreHeld (third_of request.now.what) (I.held inputs.old) texts
-        × AllZip Says (I.held inputs.old).logs logs × IsMadeBy request.now.what request.now texts logs result }
+        × AllZip Says (I.held inputs.old).logs logs
+        × IsMadeBy request.now.what request.now texts logs result }
     ensures all { IfOk result (λ _. HasReadAll request.now.what (I.held inputs.new).logs) }
     ensures leads { Leads I.Reads inputs.old inputs.new }
 {

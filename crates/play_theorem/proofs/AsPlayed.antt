@@ -1,9 +1,10 @@
 -- What an edit makes is what the page says.
 use Rattle.std.proofs.Common.{◌≡◌, ℕ, suc, ◌+◌, ◌-◌, ◌^◌, Bool, List, [], ◌∷◌, ◌++◌, None, Some}
 use Rattle.std.proofs.Common.{Ok, Err, map, append_assoc, ap, arith, sym, subst, ◌∙◌, refl, take}
-use Rattle.std.proofs.Common.{length}
+use Rattle.std.proofs.Common.{length, inl, inr}
+use Rattle.std.specs.Prelude.{◌⊎◌, IfErr}
 use Rattle.std.specs.Prelude.{IfOk, MatchOption, Option, Result, if◌then◌else◌, count_by, ⊤}
-use Rattle.std.specs.Io.KnownBytes.{Appends}
+use Rattle.std.specs.Io.KnownBytes.{Appends, Keeps}
 use Rattle.std.specs.List.{flat_map}
 use Rattle.std.specs.Str.Lines.{lines}
 use Rattle.std.proofs.lemmas.List.Sums.{sum-map, sum_by-cons}
@@ -157,6 +158,16 @@ run_as_played database bindings log script editing stages before after (Ok made)
     judged writes = tt
 run_as_played database bindings log script editing stages before after (Err one) (Err other) asked
     judged writes = tt
+
+-- a run that fails has written nothing, unless its writer failed
+pub nothing_else_written : (before after : Option (List ℕ))
+    (made : Result (Reported EditRun) PlayFault) (ended : Result EditRun PlayFault)
+    → Writes (λ found. found ≡ PlayFault.Write) made before after ended
+    → IfErr ended (λ found. (found ≡ PlayFault.Write) ⊎ Keeps before after)
+nothing_else_written before after (Ok made) (Ok run) writes = tt
+nothing_else_written before after (Ok made) (Err found) writes = inl writes.0
+nothing_else_written before after (Err found) (Ok run) writes = tt
+nothing_else_written before after (Err one) (Err other) writes = inr writes.1
 
 -- ---- what an edit leaves
 

@@ -2,7 +2,7 @@ use Rattle.std.proofs.Common.{refl}
 use Rattle.cave_play.specs.Stages.{edit_stages}
 use Rattle.play_command.specs.declared.line.Editing.{Editing}
 use Rattle.play_command.specs.declared.views.EditView.{EditView}
-use Rattle.play_theorem.proofs.AsPlayed.{run_as_played}
+use Rattle.play_theorem.proofs.AsPlayed.{nothing_else_written, run_as_played}
 use Rattle.play_theorem.proofs.theorem.edit_log.Goals as goal
 
 pub returns : goal.returns
@@ -17,4 +17,5 @@ returns g c =
         run_as_played texts.database texts.bindings texts.log texts.script editing stages _ _ made
             c.run_edit.result refl judged writes,
       );
+      failed = nothing_else_written _ _ made c.run_edit.result writes;
     }
