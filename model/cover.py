@@ -4,10 +4,6 @@ Coverage and Known doubts)."""
 from database import ROLES, first_line
 from lines import is_blank, lines_of
 
-HEADINGS = {"long text": "long texts", "short text": "short texts", "object text": "object texts",
-            "inventory text": "inventory texts", "message": "messages", "role": "roles",
-            "class": "classes"}
-
 class KnownList:
     """A list, which is in a file. Blanks that begin its lines don't count."""
 
@@ -49,6 +45,7 @@ def report(cave, said, count, view, known):
             lines += unknown
             continue
         listed = f", never {' '.join(map(name_of, never))}" if never else ""
-        lines.append(f"{HEADINGS[kind]}: {len(texts) - len(never)} of {len(texts)}{listed}")
+        heading = "classes" if kind == "class" else f"{kind}s"
+        lines.append(f"{heading}: {len(texts) - len(never)} of {len(texts)}{listed}")
     logs = "log" if count == 1 else "logs"
     return met, [*lines, f"-- {shown} of {all_texts} texts in {count} {logs}"], left

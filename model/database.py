@@ -1,6 +1,7 @@
 """Databases and bindings, with their faults (docs/DATABASE.md)."""
 
 from collections import namedtuple
+from itertools import groupby
 
 from lines import (FIELD, LINE_LENGTH, MARKS, Fault, fields_of, folded, is_blank, is_near,
                    lines_of, number_of)
@@ -146,13 +147,7 @@ def sections_of(text):
 
 def last_runs(rows):
     """The lines of the last run of each key: adjacent rows of a key are one run."""
-    texts, before = {}, object()
-    for key, line in rows:
-        if key != before:
-            texts[key] = []
-        texts[key].append(line)
-        before = key
-    return texts
+    return {key: [line for _, line in run] for key, run in groupby(rows, lambda row: row[0])}
 
 def keyed_by_object(rows):
     """The rows of section 5, each with its object, and with its prop or None."""

@@ -86,8 +86,7 @@ phrases({
 }, {
     "how many dwarves": lambda game: game.out.append(
         f"There are {game.seeing} threatening little dwarves in the room with you."),
-    "how many knives":
-        lambda game: game.out.append(f"{game.knives} of them throw knives at you!"),
+    "how many knives": lambda game: game.out.append(f"{game.knives} of them throw knives at you!"),
     "it is gone": lambda game: put(game, 0, was(game)),
     "it steps aside": lambda game: put(game, *[game.cave.place("dwarfalt")] * 2),
     "it was where it is": lambda game: put(game, at(game), at(game)),

@@ -52,8 +52,7 @@ class Player:
         """Where an object is that isn't in the hands, or 0."""
         x = self.game.thing(name)
         places = [it for it in (self.game.where[x], self.game.held[x]) if it > 0] if x else []
-        is_held = not x or self.game.is_in_hands(x)
-        return 0 if is_held or not places else self.rng.choice(places)
+        return 0 if self.game.is_in_hands(x) or not places else self.rng.choice(places)
 
     def place_for(self, step):
         """Where a step of an errand leads, or 0."""

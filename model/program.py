@@ -95,9 +95,8 @@ def words_of(words):
                             f"\n  [possible values: {of}")
             options[name] = [*options.get(name, []), value] if name == "--edit" else value
     if missing := [it for it in FILES[command][len(files):] if it.startswith("<")]:
-        used = [command, *map(shown_option, options), *FILES[command]]
         raise wrong("\n  ".join(["the following required arguments were not provided:", *missing]),
-                    " ".join(used))
+                    " ".join([command, *map(shown_option, options), *FILES[command]]))
     return command, files, judged_options(command, files, options)
 
 def command_of(word):
@@ -208,8 +207,7 @@ def head_notice(name, text, database, options):
     line = [*lines_of(text), ""][0]
     if not line.startswith("# cave:") or flaw_of(line):
         return ""
-    said = line.removeprefix("# cave:")
-    words = findall("[^ \t]+", said)
+    words = findall("[^ \t]+", line.removeprefix("# cave:"))
     cave = [*words, ""][0]
     bind, seed = said_in_head(words, "--bind"), said_in_head(words, "--seed")
     bound = options.get("--bind")

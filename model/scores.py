@@ -15,8 +15,7 @@ def rows_of(game):
     for x in cave.treasures:
         worth = cave.worth(x)
         found = 2 if game.prop[x] >= 0 else 0
-        is_home = game.prop[x] == 0 and game.where[x] == cave.place("building")
-        home = worth - 2 if is_home else 0
+        home = worth - 2 if game.prop[x] == 0 and game.where[x] == cave.place("building") else 0
         yield named("treasure", x, cave.object_texts[x, None]), found, home, found + home, worth
     at_witt = magazine and game.where[magazine] == cave.place("witt")
     others = {"lives": (10 * (3 - game.deaths), 30),

@@ -12,8 +12,7 @@ def seed_before(x, draws):
 def border_seed(rng, below, border):
     """A seed by which one of the next draws falls just below a border or on it."""
     drawn = max(min(border - rng.randrange(2), below - 1), 0)
-    least = -((-drawn << 20) // below)
-    x = min(least + rng.randrange((1 << 20) // below - 1), (1 << 20) - 1)
+    x = min(seed_at(drawn, below) + rng.randrange((1 << 20) // below - 1), (1 << 20) - 1)
     return seed_before(x, rng.choice([0, 0, 0, 1, 1, 2, 3, 4, 5, 6]))
 
 # ---- Seeds for draws that fall as they should

@@ -131,14 +131,10 @@ class Game:
         """The two places at which the cave puts an object."""
         return self.cave.homes.get(x, (0, 0))
 
-    def prop_of(self, x):
-        """The prop of an object; None for an absent one, of whose prop no test holds."""
-        return self.prop[x] if x else None
-
     def liquid(self):
         """What is in the bottle: an object, 0 for one that the cave has no word for, or None."""
-        prop = self.prop_of(self.thing("BOTTLE"))
-        return {0: self.thing("WATER"), 2: self.thing("OIL")}.get(prop)
+        bottle, liquids = self.thing("BOTTLE"), {0: self.thing("WATER"), 2: self.thing("OIL")}
+        return liquids.get(self.prop[bottle]) if bottle else None
 
     def lake(self):
         """What the lake of this place is of, as `liquid` says it; None if there is no lake."""

@@ -101,6 +101,5 @@ def tables(file, names):
         if "|" in line:
             found[name].append(line)
         else:
-            name = line
-            found[name] = []
+            found[name := line] = []
     return {name: Table(name, lines, names) for name, lines in found.items()}

@@ -139,9 +139,6 @@ def end_turn(game):
         if game.clue >= 4 and game.clue not in game.taken:
             TABLES["hint turns"].apply(game)
 
-def is_due(game):
-    return game.waited[game.clue] >= game.cave.hints[game.clue][0]
-
 def wait(game, turns):
     game.waited[game.clue] = min(turns, 10_000)
 
@@ -168,8 +165,7 @@ phrases({
     "it means (nothing|a motion|an object|a special word)":
         lambda game, kind: game.kind == KINDS[kind],
     "it means action {N}": lambda game, action: (game.kind, game.number) == (2, action),
-    "it means motion 62 or 65 or 71":
-        lambda game: game.kind == 0 and game.number in (62, 65, 71),
+    "it means motion 62 or 65 or 71": lambda game: game.kind == 0 and game.number in (62, 65, 71),
     "the first happens": lambda game: game.drawn[0],
     "the second happens": lambda game: game.drawn[1],
     "a knife was thrown here": lambda game: game.knife == game.here,
@@ -177,8 +173,7 @@ phrases({
     "{A} is here or carried": lambda game, x: game.is_here(x) or game.is_carried(x),
     "{A} is in {A} at hand or in the lake": lambda game, x, bottle:
         x == game.liquid() and game.is_at_hand(bottle) or x == game.lake(),
-    "it (asks back|asks for a verb|has an unknown word)":
-        lambda game, why: game.unfinished == why,
+    "it (asks back|asks for a verb|has an unknown word)": lambda game, why: game.unfinished == why,
     "place {N} of {A} is one": lambda game, number, x: game.home(x)[number - 1] > 0,
     "{A} is at a place of {A}": lambda game, x, y: 0 < game.where[x] in game.home(y),
     "the first clock goes": first_clock_goes,
@@ -187,7 +182,7 @@ phrases({
         None not in (game.cave.place("ne"), game.cave.place("sw")),
     "the player is in the area of the hint": lambda game: game.cave.has(game.here, game.clue),
     "the hint was waited for": lambda game: game.waited.get(game.clue, 0) > 0,
-    "the hint is due": is_due,
+    "the hint is due": lambda game: game.waited[game.clue] >= game.cave.hints[game.clue][0],
     "{A} is the last object": lambda game, x: x != 0 and game.last_object == x,
     "nothing is around": lambda game: not any(
         game.lists.get(it) for it in (game.here, game.last, game.older)),
@@ -205,8 +200,7 @@ phrases({
     "say the word aloud": lambda game: read(game, game.word, None, "word aloud"),
     "say the next word aloud": lambda game: read(game, game.after, None, "word aloud"),
     "it is the verb": lambda game: vars(game).update(verb_so_far=game.number),
-    "do the verb by itself":
-        lambda game: (vars(game).update(x_so_far=0), do_the_verb(game)),
+    "do the verb by itself": lambda game: (vars(game).update(x_so_far=0), do_the_verb(game)),
     "its message": lambda game: game.message(game.number),
     "it means {A}": lambda game, x: vars(game).update(meant=x),
     "say that it is okay": lambda game: game.out.append(f'Okay, "{game.word}".'),

@@ -19,8 +19,7 @@ MOST_IN_HANDS, MAGIC_WORDS, MOST_ANGER = 7, 4, 13
 
 def there(game, *tests):
     """The objects of the names whose tests hold, except absent ones."""
-    found = [(game.thing(name), is_so) for name, is_so in tests]
-    return [x for x, is_so in found if x and is_so(x)]
+    return [x for name, is_so in tests if (x := game.thing(name)) and is_so(x)]
 
 def poured(game):
     """What POUR pours: x, or what is in the bottle."""

@@ -4,21 +4,18 @@ about, and the lines of their logs.
 
 import re
 from collections import namedtuple
-from itertools import product
+from itertools import count, product
 
 from database import NAMES, SECONDS
-from generate import DIRECTIONS, GO, MAGIC, TREASURES
+from generate import DIRECTIONS, FIXED, GO, MAGIC, TREASURES
 from lines import text_of
 from seeds import seeds_about
 from verbs import ACTIONS
 
 Directed = namedtuple("Directed", "name database bindings lines is_long")
 
-NUMBERS = {"ROD": 41, "PLANT": 43, "TROLL": 45}
-OTHERS = [it for it in NAMES if it not in NUMBERS]
-FIRST_TREASURE = 50
-NUMBERS.update((it, at) for at, it in enumerate((it for it in OTHERS if it not in TREASURES), 1))
-NUMBERS.update((it, at) for at, it in enumerate(TREASURES, FIRST_TREASURE))
+OTHERS = [it for it in NAMES if it not in FIXED and it not in TREASURES]
+NUMBERS = FIXED | dict(zip(OTHERS, count(1))) | dict(zip(TREASURES, count(50)))
 # The parts of a cave that say something of their first words, and those that only list words.
 OF_WORDS = {"homes": {}, "ways": {}, "bits": {}, "numbers": {},
             "bound": {"start": ["9"], "building": ["10"], "outside": ["1"], "deep": ["299"]}}

@@ -19,13 +19,12 @@ from common.files import TOP
 from common.suite import SUITE
 
 __all__ = ["SUITE", "TOP", "Case", "check", "counted"]
-Case = Callable[[], Iterable[str] | None]  # what is wrong, or None if there is nothing to look at
+Case = Callable[[], Iterable[str]]  # what is wrong
 
 
-def faults_of(case: Case) -> list[str] | None:
+def faults_of(case: Case) -> list[str]:
     try:
-        found = case()
-        return None if found is None else [*found]
+        return [*case()]
     except Exception as failed:  # of the program, or of what it prints
         return [f"{type(failed).__name__}: {failed}"]
 
@@ -34,8 +33,7 @@ def counted(cases: Mapping[str, Case], right: str, wrong: str) -> int:
     """Looks at cases by their names, as many at a time as there are processors. Each fault is a
     line, and the last one counts the cases: the status is 1 if one is wrong or there is none."""
     with ThreadPoolExecutor(os.cpu_count()) as pool:
-        looked = dict(zip(cases, pool.map(faults_of, cases.values())))
-    found = {name: faults for name, faults in looked.items() if faults is not None}
+        found = dict(zip(cases, pool.map(faults_of, cases.values())))
     command_line.told(f"FAILED {name}: {it}" for name, faults in found.items() for it in faults)
     failed = sum(map(bool, found.values()))
     print(f"{len(found) - failed} {right}, {failed} {wrong}")

@@ -17,8 +17,7 @@ from common.sources import FUNCTION, Function, Source, functions_in, sources
 LAWS = ("turn_laws/", "play_laws/", "play_theorem/", "laws.rt")
 # A call, or a function that is handed to a method or to a function by just its name.
 CALL = re.compile(
-    r"(?:(\w+)(?:::<[^>]*>)?::|(\w*\)?\??(?<!\.)\.\s*))?\b([a-z]\w*)(?=\(|::<|\)|,|;)", re.ASCII
-)
+    r"(?:(\w+)(?:::<[^>]*>)?::|(\w*\)?\??(?<!\.)\.\s*))?\b([a-z]\w*)(?=\(|::<|\)|,|;)", re.ASCII)
 # A table of rows, whose effects are methods of the scene; each follows an arrow or another effect.
 ROWS = re.compile(r"^( *)rows! \{.*?^\1\}", re.MULTILINE | re.DOTALL)
 EFFECT = re.compile(r"(?:=>|\),)\s+([a-z]\w*)(?=\()", re.ASCII)

@@ -40,8 +40,7 @@ def coded(row: str) -> Coded:
     while inner := INNER.search(row):
         row = row.replace(inner[0] + bracket_of(row[inner.end() :]), "more()", 1)
     done = row.partition("=>")[2].partition("->")[0].strip()
-    is_block = done[:1] == "{"
-    parts = statements(f"{done[1:-1]};}}") if is_block else parts_between(",", done)
+    parts = statements(f"{done[1:-1]};}}") if done[:1] == "{" else parts_between(",", done)
     effects = [EFFECT.match(it.strip()) for it in parts if not IDLE.match(it.strip())]
     return Coded([it.lower() for it in ROLE.findall(row)], [it[1] for it in effects if it],
                  None in effects)
@@ -71,22 +70,18 @@ def rows_after(text: str) -> Iterator[tuple[str, str]]:
             number += 1
 
 
+def parts_coded() -> Iterator[tuple[str, str, list[tuple[str, str]]]]:
+    """The tables of code and the parts of one, in their order: the file, the name and the rows."""
+    for file in sources("src"):
+        for head in BEGIN.finditer(file.text):
+            yield file.path, head[1], [*rows_after(file.text[head.end() :])]
+
+
 def tables_coded() -> dict[str, dict[str, list[Coded]]]:
     found = defaultdict[str, dict[str, list[Coded]]](lambda: defaultdict(list))
-    for file in sources("src"):
-        for head in BEGIN.finditer(file.text):
-            for number, row in rows_after(file.text[head.end() :]):
-                found[head[1]][number].append(coded(row))
-    return found
-
-
-def parts_coded() -> dict[str, list[tuple[str, int]]]:
-    """The tables of each file of code in their order, each with the number of its first row."""
-    found = defaultdict[str, list[tuple[str, int]]](list)
-    for file in sources("src"):
-        for head in BEGIN.finditer(file.text):
-            if number := next((it for it, _ in rows_after(file.text[head.end() :])), None):
-                found[file.path].append((head[1], int(number)))
+    for _, table, rows in parts_coded():
+        for number, row in rows:
+            found[table][number].append(coded(row))
     return found
 
 

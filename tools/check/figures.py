@@ -2,7 +2,7 @@
 
 Each number of figures.md stands on its page between its words, which may be in several lines. It is
 that of a definition, with those that it is made of, how many variants a type of the code has, how
-many crates one is built on, or how many rows a table of a page has.
+many crates one is built on, how many files there are, or how many rows a table of a page has.
 """
 
 import re
@@ -11,7 +11,7 @@ from functools import cache
 from math import prod
 from pathlib import Path
 
-from common.files import below, section_of, tables_in, text_if
+from common.files import below, files, section_of, tables_in, text_if
 from common.sources import sources
 
 
@@ -48,6 +48,8 @@ def meant(text: str) -> int:
     kind, _, what = text.partition(" of ")
     if kind == "variants":
         return variants(what)
+    if kind == "files":
+        return len(files(what))
     if kind == "rows":
         page, _, heading = what.partition(": ")
         return sum(len(rows) - 1 for rows in tables_in(section_of(f"docs/{page}.md", heading)))

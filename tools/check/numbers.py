@@ -18,7 +18,7 @@ DEFINED = re.compile(r"^(?:abbrev|unfoldable)(?: pub)? ([A-Z][A-Z0-9_]+) :", re.
 CODES = re.compile(r"\b(TheConstants|the_type)\b(.*)")
 FIXED = {
     "crates/play_cover/specs/RuleTables.antt",  # by the pages and by `tables_are_in_order`
-    # These numbers only tell roles and names apart: all else is said by the rows of the definitions.
+    # These numbers only tell roles and names apart: all else is said by rows of the definitions.
     "crates/data_rows/specs/Role.antt",
     "crates/data_rows/specs/PlaceRole.antt",
     "crates/cave_words/specs/Named.antt",

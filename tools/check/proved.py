@@ -6,7 +6,7 @@ a part has to have each of its labels, in the crate of the row or in the one tha
 after "in"; several functions of one name, such as methods, are one here. A function without a label
 has to ensure something, by itself or by its trait, and a law something that a definition says. A
 clause that says nothing is none: it has to cite a definition, or say something of the result or of
-what an argument is afterwards, and not that something is itself.
+what an argument is afterwards, and not that something is itself or only that it has some bound.
 
 The text after each `old: ` of a wrong body has to stand exactly once in its file. Those of
 model/rows name a law, or a change that model/change-rows makes. What a bug of model/check-duel
@@ -32,6 +32,7 @@ LABEL_OF = re.compile(r"`([a-z]\w*)` of ((?:(?:, | and )?`[a-z]\w*`(?! of))+)")
 WRAPPED = re.compile(r"\b(?:IfOk|OnOk|OnErr|MatchOption) result\b")
 CALLED = re.compile(r"λ ([\w ]+)\.")
 COMPARED = re.compile(r"\s+[≡≤<↔→]\s+")
+BOUND = re.compile(r"result(?:\.\w+)* [≤<] \d+|\d+ [≤<] result(?:\.\w+)*")
 
 
 def crate_of(path: str) -> str:
@@ -118,7 +119,8 @@ def is_said(body: str, cited: set[str]) -> bool:
     text = CALLED.sub("", text)
     sides = [it.strip(" ()") for it in COMPARED.split(text)]
     is_about = {"result", *parts, *cited} & {*re.findall(r"\w+", text)} or ".new" in text
-    return bool(is_about) and not any(one == other for one, other in zip(sides, sides[1:]))
+    is_empty = BOUND.fullmatch(text) or any(one == other for one, other in zip(sides, sides[1:]))
+    return bool(is_about) and not is_empty
 
 
 def has_clause(crate: str, name: str, label: str, is_law: bool) -> bool:

@@ -34,8 +34,7 @@ DEFINED = re.compile(
     rf"|\bdoes verb\.(?P<verb>\w+) {THING}?|\b(?:poses|ask) question\.(?P<question>\w+)"
     rf"|\bfind_treasure (?P<seen>\w+)|\btell_its_text_for (?P<its>\w+)"
     rf"|(?<!\.)\b(?P<other>{'|'.join(OTHERS)})\b(?! ≡)")
-TARGETS = {"(home_of": "goes home", "(end_of": "moved to the other end",
-           "start": "moved to start"}
+TARGETS = {"(home_of": "goes home", "(end_of": "moved to the other end", "start": "moved to start"}
 NUMBER = re.compile(r"(?m)^ *([A-Z][A-Z_\d]+) = (?:(?:pos )?(\d+)|negsuc (\d+))$")
 SINGLE = re.compile(r"(?m)^ *(\w+) d = (set_prop (?:\(the name\.\w+\)|\w+) [A-Z_]+)\b")
 PLAIN = re.compile(r"[\s∷=]*(?:row|plain_row|chance_row|otherwise) ")  # a row without an answer
@@ -59,14 +58,12 @@ class Names:
     """What words of the definitions mean: things, numbers, and single effects by other names."""
 
     def __init__(self) -> None:
-        texts = texts_defined().values()
-        short = dict(it for text in texts for it in SHORT_NAME.findall(text))
-        whole = {it: it for text in texts for it in re.findall(r"\(the name\.(\w+)\)", text)}
-        self.things = {it: object_named(name) for it, name in short.items()}
-        self.things |= {f"(the name.{it})": object_named(it) for it in whole}
+        text = "\n".join(texts_defined().values())
+        names = SHORT_NAME.findall(text) + re.findall(r"(\(the name\.(\w+)\))", text)
+        self.things = {it: object_named(name) for it, name in names}
         self.numbers = {name: int(up) if up else -int(down) - 1
-                        for text in texts for name, up, down in NUMBER.findall(text)}
-        self.effects = dict(it for text in texts for it in SINGLE.findall(text))
+                        for name, up, down in NUMBER.findall(text)}
+        self.effects = dict[str, str](SINGLE.findall(text))
 
     def written_out(self, row: str) -> str:
         """A row with its single effects in place of their other names."""
@@ -102,8 +99,7 @@ def effects_in(defined: Mapping[str, Sequence[Table]]) -> dict[str, list[Effects
         for row in table.rows if table.form == "rows" else ():
             tests = tests_of(row)
             own = re.findall(r"\bis(?:_it)? name\.(\w+)", tests)
-            is_one = len(own) == 1 and "no (" not in tests
-            about = object_named(own[0]) if is_one else left
+            about = object_named(own[0]) if len(own) == 1 and "no (" not in tests else left
             if other := re.fullmatch(r"\(no \(is name\.(\w+)\) ∷ \[\]\)", tests):
                 left = object_named(other[1])
             rest = row.partition(tests)[2] if tests else row

@@ -18,7 +18,7 @@ what docs/DUEL.md lists.
 import re
 from collections import defaultdict
 from collections.abc import Iterator
-from itertools import combinations, pairwise
+from itertools import combinations, groupby, pairwise
 
 from code_rows import WORDS, Coded, is_part, parts_coded, tables_coded, tables_modelled
 from common.files import section_of, spans_of, tables_in, text_of
@@ -174,8 +174,8 @@ def faults_of_notes(noted: Noted, pages: list[Shown], places: Places) -> Iterato
 
 def late_in_code(at: dict[str, int]) -> Iterator[str]:
     """Tables, and parts of one, that stand in code the other way round than on the pages."""
-    for path, parts in parts_coded().items():
-        places = [(at[table], first, table) for table, first in parts if table in at]
+    for path, parts in groupby(parts_coded(), lambda it: it[0]):
+        places = [(at[it], int(rows[0][0]), it) for _, it, rows in parts if rows and it in at]
         yield from (f"{path}: {one[2]} {one[1]} and {other[2]} {other[1]} stand in the pages the"
                     " other way round" for one, other in pairwise(places) if one > other)
 

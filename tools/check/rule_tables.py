@@ -18,14 +18,13 @@ from collections.abc import Iterable, Iterator, Sequence
 from itertools import accumulate, pairwise
 from typing import NamedTuple
 
-from common.files import text_if, without_links
+from common.files import tables_in, text_if, without_links
 from common.sources import sources
 
 PAGES = ("docs/TURN.md", "docs/PLAY.md", "docs/VERBS.md")
 SHOWN = re.compile(
     r"^(?:((?:\*\*[^*]+\*\*(?:, )?)+) )?<!-- rows: (.*) -->\n(1\. (?:.+\n)+|(?:^\|.*\n)*)",
-    re.MULTILINE,
-)
+    re.MULTILINE)
 NOTED = re.compile(r"(?:\bnoted|by_table) table\.(\w+) \(?(\w+)")
 ITSELF = re.compile(r"^(\w+) d =\s+\w+_by_table table\.(\w+)", re.MULTILINE)
 CASES = re.compile(r"\bnote_row table\.(\w+) \(question_row ")
@@ -96,7 +95,7 @@ def table_of(block: str) -> Table | None:
 
 
 def texts_defined() -> dict[str, str]:
-    """The files of definitions, with one word for a type, whether a file names it or a short name."""
+    """The files of definitions, with one word for a type, named in whole or by a short name."""
     return {it.path: TYPE.sub(lambda found: WORDS[found[1]], it.text) for it in sources("specs")}
 
 
@@ -132,8 +131,7 @@ def parts_of(texts: dict[str, str]) -> dict[str, set[str]]:
 def tests_of(row: str) -> str:
     """What the tests of a row say: its first list; nothing for a last row."""
     head, _, rest = row.strip(" ()=∷+").partition(" ")
-    has_tests = rest.startswith("(") and not head.startswith("otherwise")
-    return bracket_of(rest) if has_tests else ""
+    return bracket_of(rest) if rest.startswith("(") and not head.startswith("otherwise") else ""
 
 
 def with_effects(text: str, effects: dict[str, str]) -> str:
@@ -195,8 +193,7 @@ def tables_shown() -> Iterator[Shown]:
     for page in PAGES:
         for labels, names, table in SHOWN.findall(text_if(page)):
             items = re.split(r"^(?=\d+\. )", table, flags=re.MULTILINE)[1:]
-            rows = [*map(cells_of_item, items)] or [
-                [*map(str.strip, row.strip()[1:-1].split("|"))] for row in table.splitlines()[2:]]
+            rows = [*map(cells_of_item, items)] or next(tables_in(table), [])[1:]
             yield Shown(page, re.findall(r"\*\*([^*]+)\*\*", labels), names.split(), rows)
 
 

@@ -16,15 +16,13 @@ from collections import Counter, defaultdict
 from collections.abc import Iterator
 from functools import cache
 
-from called import TYPE, Graph
+from called import TYPE, USES, Graph
 from common.files import below, crates, files, text_of
 from common.sources import Source, sources
 
-USE = {"rt": re.compile(r"^ *(?:pub |ghost )*use [^;]*;", re.MULTILINE),
-       "antt": re.compile(r"^ *(?:pub )?use .*$", re.MULTILINE)}
+USE = {"rt": USES, "antt": re.compile(r"^ *(?:pub )?use .*$", re.MULTILINE)}
 ITEM = re.compile(
-    r"^ *(?:pub(?:\(crate\))? )?(?:const|static|struct|enum|type|trait) ([A-Z]\w*)", re.MULTILINE
-)
+    r"^ *(?:pub(?:\(crate\))? )?(?:const|static|struct|enum|type|trait) ([A-Z]\w*)", re.MULTILINE)
 # A line of a definition: of its type, if a colon follows the name and what it is of, or of a case.
 BEGINNING = re.compile(r"^(?:(?: *(?:abbrev |unfoldable )?pub |abbrev |unfoldable )?"
                        r"(?:(?:record|data) )?)([\w'-]+)"

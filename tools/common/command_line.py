@@ -37,10 +37,16 @@ def answer_help(words: list[str] | None = None, said: str | None = None) -> None
         sys.exit()
 
 
-def parser() -> argparse.ArgumentParser:
-    """What reads the words of a script, whose help is what the script says about itself."""
-    return argparse.ArgumentParser(description=sys.modules["__main__"].__doc__,
+def parser(*words: str, **options: str) -> argparse.ArgumentParser:
+    """What reads the words of a script, whose help is what the script says about itself: those that
+    have to be given, by their names in help, and options, each with the name of its value there."""
+    asks = argparse.ArgumentParser(description=sys.modules["__main__"].__doc__,
                                    formatter_class=argparse.RawDescriptionHelpFormatter)
+    for it in words:
+        asks.add_argument(it.lower(), metavar=it)
+    for name, value in options.items():
+        asks.add_argument(f"--{name}", metavar=value)
+    return asks
 
 
 def the_program(*others: str) -> str:

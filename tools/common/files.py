@@ -96,9 +96,11 @@ def files(*patterns: str) -> list[str]:
     return sorted({it for it in paths if not MADE & {*it.split("/")}})
 
 
-def is_python(path: str) -> bool:
-    with open(os.path.join(TOP, path), "rb") as file:
-        return path.endswith(".py") or file.readline().rstrip() == b"#!/usr/bin/env python3"
+def scripts() -> list[str]:
+    """The scripts in Python, which are those of tools/, logs/ and model/."""
+    found = files("tools/**", "logs/**", "model/**")
+    return [it for it in found if os.path.isfile(f"{TOP}/{it}") and (
+        it.endswith(".py") or bytes_of(it).startswith(b"#!/usr/bin/env python3\n"))]
 
 
 @cache

@@ -14,8 +14,7 @@ PAGE = "docs/MEASURED.md"
 
 
 def today() -> str:
-    day = datetime.date.today()
-    return f"{day.day} {day:%B %Y}"
+    return f"{datetime.date.today():%-d %B %Y}"
 
 
 def table(heads: list[str], rows: Iterable[Iterable[object]]) -> str:

@@ -76,8 +76,7 @@ def by_keys(window: Live, server: Served) -> Checks:
     yield "Enter types over the line", window.run(TYPED), "take pillow"
     yield "an empty line is still there", len(window.retype("").run(LOG)), 22
     window.ask("noteMarks")
-    marked = window.press("Backspace").wait("return window.lastMarked > 9")
-    yield "lines are marked", marked, True
+    yield "lines are marked", window.press("Backspace").wait("return window.lastMarked > 9"), True
     yield "Backspace takes it out", window.run(LOG)[9], "se"
     yield "the line above is typed over", window.run(TYPED), "nw"
     for selector, text in [("#otherwise", "Score 59 in place of 73"),
@@ -249,8 +248,7 @@ def seeds(window: Live, server: Served) -> Checks:
 def on_disk(window: Live, server: Served) -> Checks:
     edit_line(window, 18, "drop vase")
     write(server.path, server.file() + b"look\n")
-    said = window.press("Control+s").text("#notice")
-    yield "it is said", "changed on disk" in said, True
+    yield "it is said", "changed on disk" in window.press("Control+s").text("#notice"), True
     yield "nothing is saved", lines_of(server.path), [*OPENED, "look"]
     yield "until that is asked for", window.click("#save-over").run(LOG), lines_of(server.path)
     yield "saved", window.text("#unsaved"), "saved"
@@ -313,8 +311,7 @@ def largest(window: Live, program: str) -> Checks:
         changed = sum(a != b for a, b in zip(window.run(LOG), opened))
         yield "lines that are changed", CHANGES - 2 <= changed <= CHANGES, True
         yield from page_is(window, server, "ten changes")
-        back = window.do("goToChange(() => 0)").settle().run(LOG)
-        yield "all taken back", back == opened, True
+        yield "all taken back", window.do("goToChange(() => 0)").settle().run(LOG) == opened, True
         window.press("Control+s")
         yield "saved as it was", lines_of(server.path) == opened, True
 

@@ -171,8 +171,7 @@ def clicks(pages: Pages, page: Page) -> Checks:
             yield from line_is(page, walk, line, f"a click on place {place}")
     before = page.chosen()
     yield "a click on a place that wasn't visited", page.click('[data-place="40"]').chosen(), before
-    said = page.value("#said-now")
-    yield "what is said of it", said.endswith("never visited in tour.log"), True
+    yield "what is said of it", page.value("#said-now").endswith("never visited in tour.log"), True
     old = page.click("#whole").ask("sightOfMap")
     moved = page.click("#overview", 60, 40).ask("sightOfMap")
     yield "a click on the small map", moved[:2] != old[:2], True

@@ -10,10 +10,10 @@ import subprocess
 import sys
 from typing import Any, BinaryIO, NamedTuple
 
+from cave_walk.steps import Steps, columns_of
 from common.files import TOP, bytes_of, match_in, text_of, write
 from served import SEED, SHOAL, TOUR
 
-NUMBERS = {*"from to turns score lamp draws stream".split()}  # columns that are read as numbers
 Told = dict[str, Any]  # what the program prints of a line, or of an object
 
 
@@ -22,7 +22,7 @@ class Walk(NamedTuple):
 
     path: str
     lines: list[str]
-    steps: dict[str, list[Any]]
+    steps: Steps
     transcript: str
     told: list[Told]
 
@@ -57,10 +57,7 @@ class Pages:
         ran = self.ran(*words, *(["--against", against] if against else []), "--output", path)
         if ran.returncode or ran.stderr:
             raise ValueError(f"tools/page/page ends with {ran.returncode}: {ran.stderr}")
-        head, *rows = (it.split("\t") for it in self.printed("play", *words, "--print", "steps")
-                       .removesuffix("\n").split("\n"))
-        steps = {name: [int(it) if name in NUMBERS else it for it in column]
-                 for name, *column in zip(head, *rows)}
+        steps = columns_of(self.printed("play", *words, "--print", "steps"))
         told = self.printed("play", *words, "--print", "walk").splitlines()
         return Walk(path, bytes_of(log).decode("ascii").splitlines(), steps,
                     self.printed("play", *words), [*map(json.loads, told)])
@@ -112,8 +109,7 @@ def trail_of(walk: Walk, line: int) -> list[list[int]]:
 
 def named(things: list[Told]) -> str:
     """The names of objects on the page."""
-    names = [it["name"] or f"object {it['object']}" for it in things]
-    return ", ".join(names).lower() or "nothing"
+    return ", ".join(it["name"] or f"object {it['object']}" for it in things).lower() or "nothing"
 
 
 def things_at(walk: Walk, place: int, line: int) -> list[Told]:

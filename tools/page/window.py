@@ -69,8 +69,7 @@ class Window(webdriver.Chrome):
         """Shows pages by day, `light`, or by night, `dark`; on a screen or in `print`."""
         features = [{"name": "prefers-color-scheme", "value": scheme},
                     {"name": "prefers-reduced-motion", "value": "reduce"}]
-        said = {"media": medium, "features": features}
-        self.execute_cdp_cmd("Emulation.setEmulatedMedia", said)
+        self.execute_cdp_cmd("Emulation.setEmulatedMedia", {"media": medium, "features": features})
         return self
 
     def messages(self) -> list[str]:

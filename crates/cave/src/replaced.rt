@@ -58,13 +58,27 @@ fn folder_of(path: &str) -> &str {
     }
 }
 
-/// The name by which the system knows where standard output goes.
-const STANDARD_OUTPUT: &str = "/dev/stdout";
+/// The names by which the system knows where the program prints to, and why no output goes there.
+const STREAMS: [(&str, &str); 2] = [
+    (
+        "/dev/stdout",
+        "it is where standard output goes: leave --output out",
+    ),
+    (
+        "/dev/stderr",
+        "it is where standard error goes: write into another file",
+    ),
+];
 
-/// Whether a file is the one that standard output goes to, which would lose what is in it.
-fn is_standard_output(rt: &HostRuntime, found: &Metadata) -> io::Result<bool> {
-    let output = Stamp::found(rt, STANDARD_OUTPUT)?;
-    Ok(output.is_some_and(|output| output.is_of_file(Stamp::of(found))))
+/// Why a file can't be replaced, if the program prints to it, since it would lose what is in it.
+fn why_printed_to(rt: &HostRuntime, found: &Metadata) -> io::Result<Option<&'static str>> {
+    for (stream, why) in &STREAMS {
+        let printed = Stamp::found(rt, stream)?;
+        if printed.is_some_and(|printed| printed.is_of_file(Stamp::of(found))) {
+            return Ok(Some(*why));
+        }
+    }
+    Ok(None)
 }
 
 impl<'a> ReplacedFile<'a> {
@@ -83,15 +97,15 @@ impl<'a> ReplacedFile<'a> {
             Some(found) if !found.is_file() => {
                 return Err(io::Error::other("is no regular file"));
             }
-            Some(found) if is_standard_output(rt, &found)? => {
-                return Err(io::Error::other(
-                    "it is where standard output goes: leave --output out",
-                ));
+            Some(found) => {
+                if let Some(why) = why_printed_to(rt, &found)? {
+                    return Err(io::Error::other(why));
+                }
+                (
+                    fs::canonicalize(rt, name)?.into_string(),
+                    Some(found.permissions()),
+                )
             }
-            Some(found) => (
-                fs::canonicalize(rt, name)?.into_string(),
-                Some(found.permissions()),
-            ),
             None => (String::from_str(rt.alloc(), name)?, None),
         };
         let draft = draft_name(rt.alloc(), path.as_str())?;

@@ -9,6 +9,7 @@ use Rattle.replay_edits.specs.Edit.{game_of, IsGame}
 use Rattle.cave_replay.specs.Opening.{first_bad_line, or_game_fault}
 use Rattle.cave_replay.specs.declared.fault.OpenFault.TheVariants as session
 use Rattle.cave_replay.proofs.Openings.{IsGame-from_no_fault}
+use Rattle.std.specs.Option.{option_or}
 use Rattle.cave_play.specs.Stages.{large_seed, lines_fault, log_fault, or_too_many}
 use Rattle.cave_play.specs.declared.fault.LogFault.TheVariants as log
 use Rattle.cave_play.specs.declared.fault.PlayFault.{PlayFault}
@@ -16,7 +17,7 @@ use Rattle.cave_play.specs.declared.fault.PlayFault.{PlayFault}
 -- ---- a session can hold an accepted log
 
 unrefused : (test : Bool) (found : PlayFault) (rest : Option PlayFault)
-    → (if test then Some found else rest) ≡ None → rest ≡ None
+    → option_or (if test then Some found else None) rest ≡ None → rest ≡ None
 unrefused true found rest free = cc
 unrefused false found rest free = free
 

@@ -5,8 +5,8 @@ use Rattle.check_doubts.specs.declared.listing.DoubtFiles.{DoubtFiles}
 use Rattle.cave_play.specs.Output.{AreLeft, AreLeftIn, IsChecked, IsReadOf, check_text}
 use Rattle.std.specs.Global.{Vec}
 use Rattle.check_doubts.specs.declared.flaw.Doubt.{Doubt}
-use Rattle.cave_play.specs.declared.output.Reported.{Reported}
 use Rattle.cave_play.specs.declared.judge.ReadCave.{ReadCave}
+use Rattle.cave_play.specs.declared.output.Reported.{Reported}
 use Rattle.play_command.specs.declared.views.CheckView.{CheckView}
 
 -- what is left of the doubts of a cave that was read from these texts

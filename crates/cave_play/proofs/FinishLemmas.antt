@@ -4,28 +4,36 @@ use Rattle.std.proofs.Common.{[], ◌∷◌, subst, inl, inr, ◌++◌, Result, 
 use Rattle.std.specs.Str.Lines.{lines}
 use Rattle.cave_data.specs.CaveView.{CaveView}
 use Rattle.play_command.specs.declared.views.EditView.{EditView}
+use Rattle.play_command.specs.declared.line.Editing.{Editing}
+use Rattle.play_command.specs.declared.views.ReportView.{ReportView}
 use Rattle.play_edits.specs.Outcome.{ItemOutcome}
 use Rattle.replay_edits.specs.Edit.{Game, game_of}
 use Rattle.play_edits.specs.Ends.{EndsOfLog, log_ends, ends_after_items, ended_view}
 use Rattle.replay_scripts.specs.Script.{Applied}
-use Rattle.cave_play.specs.Stages.{bytes_to_read, output_fault, size_fault, fault_of_items}
+use Rattle.replay_scripts.specs.declared.fault.ScriptRefusal.{ScriptRefusal}
+use Rattle.std.specs.Prelude.{option_and_then}
+use Rattle.std.specs.Result.{result_ok}
+use Rattle.cave_play.specs.Stages.{bytes_to_read, size_fault}
 use Rattle.cave_play.specs.Stages.{first_decided, strict_stage, Stage, log_stage, script_stage}
 use Rattle.cave_play.specs.Stages.{size_stage, Judges}
 use Rattle.play_edits.specs.Views.{IsViewOf, IsMadeOf, IsSideReportOf}
 use Rattle.cave_play.specs.declared.fault.PlayFault.{PlayFault}
+use Rattle.cave_play.specs.declared.output.Reported.{Reported}
 use Rattle.replay_scripts.specs.Guards.{script_by}
 use Rattle.play_edits.specs.Edits.{ending_refusal}
 use Rattle.cave_play.proofs.StageLemmas.{first_decided-one, IsFoundIn-first, IsFoundIn-later}
 use Rattle.cave_play.proofs.StageLemmas.{first_decided-later}
 use Rattle.cave_data.specs.Reads.{Reads}
-use Rattle.play_command.specs.declared.views.ReportView.{ReportView}
-use Rattle.play_command.specs.declared.line.Editing.{Editing}
 use Rattle.cave_play.specs.Output.{FinishesEdit, IsEditRun, IsSideReport}
 use Rattle.play_edits.specs.declared.items.EditRun.{EditRun}
 use Rattle.play_edits.specs.declared.items.MadeEdit.{MadeEdit}
-use Rattle.cave_play.specs.declared.output.Reported.{Reported}
 use Rattle.cave_play.proofs.ScriptLemmas.{script_by-spelled}
 use Rattle.play_command.specs.declared.views.ReportView.TheVariants.{Reports, Table}
+
+-- what is decided of items that are read
+abbrev decided_of : (List Applied → Option PlayFault) → Result (List Applied) ScriptRefusal
+    → Option PlayFault
+decided_of decides read = option_and_then decides (result_ok read)
 
 -- ---- items of a strict run
 
@@ -35,7 +43,9 @@ pub first_decided-strict : (strict : Bool) (game : Game) (guarded : Bool) (scrip
     → first_decided (strict_stage strict game guarded script ∷ []) ≡ None
 first_decided-strict strict game guarded script items spelled none =
     first_decided-one (strict_stage strict game guarded script)
-    (ap (fault_of_items strict game) spelled ∙ ap (option_map PlayFault.Refused) none)
+    (ap (decided_of (λ items. option_map PlayFault.Refused (ending_refusal strict items game)))
+      spelled
+    ∙ ap (option_map PlayFault.Refused) none)
 
 -- ---- the size of what is printed
 
@@ -106,7 +116,8 @@ module _ (database bindings log script : List ℕ) (editing : Editing)
       size_printed editing.view cave (game_of editing.seed (lines log)) editing.guarded
       is.edit.items is.edit.outcomes (log_ends log script) is.text made.text.items is.edit.written
       is.printed
-      ∙ ap (output_fault editing.view editing.guarded log editing.seed script)
+      ∙ ap (decided_of (λ items. size_fault editing.view (bytes_to_read editing.view editing.guarded
+      items (game_of editing.seed (lines log)) (log_ends log script))))
       (sym (script_by-spelled editing.guarded script is.edit.items is.edit.spelled))
 
   -- what was made is what the run returns and prints

@@ -27,7 +27,8 @@ use Rattle.replay_scripts.specs.declared.fault.ScriptRefusal.TheVariants.{Malfor
 use Rattle.cave_play.proofs.StageLemmas.{Judges-read, first_decided-one}
 use Rattle.cave_play.specs.Stages.{large_seed, every_fault, too_large, input_size_fault}
 use Rattle.cave_play.specs.Stages.{cave_refusal, inputs_fault, lines_fault, log_fault, script_fault}
-use Rattle.cave_play.specs.Stages.{first_malformed, script_refusal, or_too_many, opening_fault}
+use Rattle.cave_play.specs.Stages.{script_refusal, or_too_many, opening_fault}
+use Rattle.std.specs.Result.{result_err}
 use Rattle.cave_play.specs.Stages.{Judges, IsFoundAt, IsFoundIn, reading_stage, judging_stage}
 use Rattle.cave_play.specs.Stages.{first_decided, cave_stages, known_stage, log_stage, script_stage}
 use Rattle.cave_play.specs.Sources.{IsUnread}
@@ -293,9 +294,13 @@ IsFoundIn-script guarded bytes found (inl outside) = inl (inl outside)
 IsFoundIn-script guarded bytes found (inr (large, is)) =
     inl (inr (rw (lt-ltb MAX_INPUT_BYTES (length bytes) large, is) refl))
 
+-- what a script is refused for
+abbrev refusal_in : Result (List Applied) ScriptRefusal → Option PlayFault
+refusal_in read = option_map script_refusal (result_err read)
+
 -- a script that isn't too large is judged by its first malformed line
 pub script_fault-lines : (guarded : Bool) (bytes : List ℕ) → length bytes ≤ MAX_INPUT_BYTES
-    → script_fault guarded bytes ≡ first_malformed (script_by guarded bytes)
+    → script_fault guarded bytes ≡ refusal_in (script_by guarded bytes)
 unfolding script_fault
 script_fault-lines guarded bytes fits = rw (le-ltb MAX_INPUT_BYTES (length bytes) fits) refl
 
@@ -303,14 +308,14 @@ pub script_fault-none : (guarded : Bool) (bytes : List ℕ) (items : List Applie
     → length bytes ≤ MAX_INPUT_BYTES
     → script_by guarded bytes ≡ Ok items → script_fault guarded bytes ≡ None
 script_fault-none guarded bytes items fits is =
-    script_fault-lines guarded bytes fits ∙ ap first_malformed is
+    script_fault-lines guarded bytes fits ∙ ap refusal_in is
 
 -- a script that was refused
 refused_by : (answer : Result (List Applied) ScriptRefusal) (found : ScriptRefusal)
     → IsFaultOf found answer
-    → IsFoundAt (reading_stage Input.Script (first_malformed answer)) (script_refusal found)
+    → IsFoundAt (reading_stage Input.Script (refusal_in answer)) (script_refusal found)
 refused_by answer Memory is = inl tt
-refused_by answer (Malformed line flaw) is = inr (ap first_malformed is)
+refused_by answer (Malformed line flaw) is = inr (ap refusal_in is)
 
 pub IsFoundIn-refused : (guarded : Bool) (bytes text : List ℕ) (found : ScriptRefusal)
     → length bytes ≤ MAX_INPUT_BYTES
@@ -319,7 +324,7 @@ pub IsFoundIn-refused : (guarded : Bool) (bytes text : List ℕ) (found : Script
 IsFoundIn-refused guarded bytes text found fits is refused =
     let told = script_refusal found in
     let here =
-    subst (λ t. IsFoundAt (reading_stage Input.Script (first_malformed (script_by guarded t))) told)
+    subst (λ t. IsFoundAt (reading_stage Input.Script (refusal_in (script_by guarded t))) told)
     is (refused_by (script_by guarded text) found refused) in
     inl (subst (λ d. IsFoundAt (reading_stage Input.Script d) told)
     (sym (script_fault-lines guarded bytes fits)) here)

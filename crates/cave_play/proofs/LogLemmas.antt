@@ -6,11 +6,11 @@ use Rattle.std.specs.Option.{option_or}
 use Rattle.cave_play.specs.Sources.{Says}
 use Rattle.cave_play.specs.Stages.{log_fault, Stage, first_decided, log_stage}
 use Rattle.cave_play.specs.Stages as stage
+use Rattle.cave_play.specs.declared.logs.LogsFault.{LogsFault}
 use Rattle.cave_play.specs.declared.fault.PlayFault.{PlayFault}
 use Rattle.cave_play.proofs.InputLemmas.{Says-some}
 use Rattle.cave_play.proofs.StageLemmas.{IsFoundIn-later, first_decided-later}
 use Rattle.cave_play.specs.Logs.{AreValidLogs, IsFoundFrom, JudgesLogs}
-use Rattle.cave_play.specs.declared.logs.LogsFault.{LogsFault}
 
 -- ---- bytes of several readers
 

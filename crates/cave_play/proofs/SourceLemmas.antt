@@ -1,14 +1,14 @@
 -- What the inputs of a run still have after some of them were read.
 use Rattle.std.proofs.Common.{◌≡◌, ℕ, List, [], ◌∷◌, None, Some, refl, ap, drop, subst, ◌∙◌}
 use Rattle.std.specs.declared.option.Option.{Option}
-use Rattle.cave_play.specs.Sources.{AreRead, AreReadersOf, Leads, held_of, held_by, held_for}
+use Rattle.cave_play.specs.Sources.{AreRead, AreReadersOf, Leads, held_of, held_by}
 use Rattle.cave_play.specs.Sources.{AreHeld, Held, IsTaken, next_log, IsOneLogOf, held_by_one}
 use Rattle.cave_play.specs.Sources.{AreTextsOf, InputTexts, Says, without_cave}
 use Rattle.cave_play.specs.declared.inputs.CaveReaders.{CaveReaders}
 use Rattle.cave_play.specs.declared.inputs.Inputs.{Inputs}
 use Rattle.cave_play.specs.declared.inputs.OneLog.{OneLog}
-use Rattle.std.specs.Prelude.{if◌then◌else◌}
 use Rattle.cave_play.specs.declared.inputs.Readers.{Readers}
+use Rattle.std.specs.Prelude.{if◌then◌else◌}
 use Rattle.play_command.specs.declared.line.Input.{Input}
 
 -- ---- the inputs that weren't read
@@ -89,31 +89,34 @@ said None = tt
 said (Some known) = refl
 
 -- texts that the inputs have, if these are those of the cave
-abbrev pub texts_by : Input → Held → List ℕ → List ℕ → InputTexts
-texts_by third held database bindings = record {
+abbrev pub texts_by : Held → List ℕ → List ℕ → InputTexts
+texts_by held database bindings = record {
   database = database;
   bindings = bindings;
   log = some_bytes (next_log held.logs);
-  script = some_bytes (held_for third held);
+  new_log = some_bytes held.new_log;
+  script = some_bytes held.script;
+  known = some_bytes held.known;
 }
 
-pub AreHeld-by : (third : Input) (held : Held) (database bindings : List ℕ)
+pub AreHeld-by : (held : Held) (database bindings : List ℕ)
     → Says held.cave database → Says held.bindings bindings
-    → AreHeld third held (texts_by third held database bindings)
-AreHeld-by third held database bindings one two = record {
+    → AreHeld held (texts_by held database bindings)
+AreHeld-by held database bindings one two = record {
   database = one;
   bindings = two;
   log = said (next_log held.logs);
-  script = said (held_for third held);
+  new_log = said held.new_log;
+  script = said held.script;
+  known = said held.known;
 }
 
 -- some texts that the inputs have
-abbrev pub some_texts : Input → Held → InputTexts
-some_texts third held =
-    texts_by third held (some_bytes held.cave) (some_bytes held.bindings)
+abbrev pub some_texts : Held → InputTexts
+some_texts held = texts_by held (some_bytes held.cave) (some_bytes held.bindings)
 
-pub AreHeld-some : (third : Input) (held : Held) → AreHeld third held (some_texts third held)
-AreHeld-some third held = AreHeld-by third held _ _ (said held.cave) (said held.bindings)
+pub AreHeld-some : (held : Held) → AreHeld held (some_texts held)
+AreHeld-some held = AreHeld-by held _ _ (said held.cave) (said held.bindings)
 
 -- ---- readers before anything is read
 
@@ -132,21 +135,13 @@ module _ {C B L S : Type 0} (left_database : C → Option (List ℕ))
 
   -- the texts of a run over one log
   pub AreTextsOf-held : (inputs : Inputs C B L S) (readers : OneLog C B L S)
-      → IsOneLogOf inputs readers → (third : Input) (texts : InputTexts)
-      → held_for third (held_of left_database left_bindings left_log left_script inputs.cave
-      (inputs.log ∷ []) inputs.script) ≡ left_script inputs.script
-      → AreHeld third (held_by_one left_database left_bindings left_log left_script readers) texts
+      → IsOneLogOf inputs readers → (texts : InputTexts)
+      → AreHeld (held_by_one left_database left_bindings left_log left_script readers) texts
       → AreTextsOf left_database left_bindings left_log left_script inputs texts
-  AreTextsOf-held inputs readers (same_inputs, unread) third texts same are =
+  AreTextsOf-held inputs readers (same_inputs, unread) texts are =
       let first = ap (λ n. held_of left_database left_bindings left_log left_script
       readers.inputs.now.cave (if n then [] else readers.inputs.now.log ∷ [])
       readers.inputs.now.script) unread
       ∙ ap (λ (i : Inputs C B L S). held_of left_database left_bindings left_log left_script i.cave
       (i.log ∷ []) i.script) same_inputs in
-      let held = subst (λ h. AreHeld third h texts) first are in
-      record {
-        database = held.database;
-        bindings = held.bindings;
-        log = held.log;
-        script = subst (λ known. Says known texts.script) same held.script;
-      }
+      subst (λ h. AreHeld h texts) first are

@@ -13,8 +13,8 @@ use Rattle.cave_play.specs.Stages.{lines_fault, log_fault, IsFoundIn}
 use Rattle.cave_play.specs.Stages.{first_decided, judging_stage, log_stage}
 use Rattle.cave_play.specs.Sources.{IsUnread, AreRead, Leads}
 use Rattle.cave_play.specs.declared.fault.PlayFault.{PlayFault}
-use Rattle.cave_play.proofs.SourceLemmas.{goes_on, stays}
 use Rattle.cave_play.specs.declared.two_logs.WithCompared.{WithCompared}
+use Rattle.cave_play.proofs.SourceLemmas.{goes_on, stays}
 use Rattle.play_command.specs.declared.line.Input.{Input}
 use Rattle.cave_play.proofs.AcceptedLogs.{IsGame-accepted}
 use Rattle.cave_play.proofs.JudgeLemmas.{log_fault-lines}

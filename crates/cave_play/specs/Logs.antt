@@ -25,21 +25,18 @@ abbrev pub noted_of_all : {Fact : Type 0} → (CaveView → State → List Part 
     → (CaveView → Moment → List Fact) → CaveView → List Game → List Fact
 noted_of_all first_facts facts cave games = flat_map (noted_of first_facts facts cave) games
 
--- the output is the report on the plays of games in the cave of a database, and this is found with
--- it
-abbrev pub IsReportOn : {V F : Type 0} → (List ℕ → CaveView → V → List Game → List ℕ)
-    → (List ℕ → CaveView → V → List Game → F)
-    → List ℕ → CaveView → V → List Game → F → List ℕ → Type 0
-IsReportOn report_on found_on database cave view games found output =
-    (output ≡ report_on database cave view games) × (found ≡ found_on database cave view games)
+module _ {V F : Type 0} (report_on : List ℕ → CaveView → V → List Game → List ℕ)
+    (found_on : List ℕ → CaveView → V → List Game → F) where
+  -- the output is the report on the plays of games in the cave of a database, and this is found
+  abbrev pub IsReportOn : List ℕ → CaveView → V → List Game → F → List ℕ → Type 0
+  IsReportOn database cave view games found output =
+      (output ≡ report_on database cave view games) × (found ≡ found_on database cave view games)
 
--- the same of the plays of logs, in the cave that the database and its bindings describe
-abbrev pub IsReported : {V F : Type 0} → (List ℕ → CaveView → V → List Game → List ℕ)
-    → (List ℕ → CaveView → V → List Game → F)
-    → List ℕ → List ℕ → List (List ℕ) → ℕ → V → F → List ℕ → Type 0
-IsReported report_on found_on database bindings logs seed view found output =
-    (cave : CaveView) × Reads database bindings cave
-    × IsReportOn report_on found_on database cave view (games_of seed logs) found output
+  -- the same of the plays of logs, in the cave that the database and its bindings describe
+  abbrev pub IsReported : List ℕ → List ℕ → List (List ℕ) → ℕ → V → F → List ℕ → Type 0
+  IsReported database bindings logs seed view found output =
+      (cave : CaveView) × Reads database bindings cave
+      × IsReportOn database cave view (games_of seed logs) found output
 
 abbrev pub at_none : PlayFault → LogsFault
 at_none found = record { fault = found; log = None }

@@ -15,11 +15,14 @@ use Rattle.play_command.specs.declared.views.CheckView.{CheckView}
 use Rattle.play_command.specs.declared.views.EditView.{EditView}
 use Rattle.play_command.specs.declared.line.Editing.{Editing}
 use Rattle.play_command.specs.declared.line.Input.{Input}
-use Rattle.cave_play.specs.declared.fault.PlayFault.{PlayFault}
 use Rattle.play_command.specs.declared.views.PlayView.{PlayView}
 use Rattle.play_command.specs.declared.views.ReportView.{ReportView}
+use Rattle.cave_play.specs.declared.two_logs.Compared.{Compared}
+use Rattle.cave_play.specs.declared.fault.PlayFault.{PlayFault}
+use Rattle.cave_play.specs.declared.judge.ReadCave.{ReadCave}
 use Rattle.cave_play.specs.declared.output.Reported.{Reported}
-use Rattle.replay_edits.specs.Edit.{Game, game_of, log_of}
+use Rattle.cave_play.specs.declared.two_logs.WithCompared.{WithCompared}
+use Rattle.replay_edits.specs.Edit.{Game, game_of}
 use Rattle.turn_ends.specs.Score.{max_score_of}
 use Rattle.play_machine.specs.FinalState.{final_state_text, score_text}
 use Rattle.play_machine.specs.Moments.{steps_text, walk_text}
@@ -33,7 +36,6 @@ use Rattle.cave_play.specs.Sources.{InputTexts, Held, Leads}
 use Rattle.cave_play.specs.Stages.{IsFoundIn, Judges, Leaves, doubts_stages}
 use Rattle.cave_play.specs.Stages.{size_fault, judging_stage, Stage, edit_stages}
 use Rattle.cave_play.specs.Stages.{log_stage, reading_stage, log_fault}
-use Rattle.cave_play.specs.declared.judge.ReadCave.{ReadCave}
 use Rattle.play_command.specs.Asked.{edit_view_of}
 use Rattle.play_edits.specs.Views.{IsEndedEdit, refusals_by, seed_by}
 use Rattle.play_edits.specs.declared.items.EditRun.{EditRun}
@@ -42,9 +44,6 @@ use Rattle.std.specs.Global.{Vec}
 use Rattle.base_lines.specs.Limits.{MAX_INPUT_BYTES}
 use Rattle.replay_difference.specs.ScriptTo.{IsScriptTo}
 use Rattle.replay_difference.specs.declared.script.ScriptForm.{ScriptForm}
-use Rattle.cave_play.specs.declared.two_logs.Compared.{Compared}
-use Rattle.cave_play.specs.declared.two_logs.ReadLog.{ReadLog}
-use Rattle.cave_play.specs.declared.two_logs.WithCompared.{WithCompared}
 
 -- ---- what is checked
 
@@ -123,8 +122,8 @@ abbrev pub RunsDoubts : Bool → DoubtFiles → InputTexts → Option (List ℕ)
 RunsDoubts strict files texts old new ended =
     (listed : Result (Vec Doubt) PlayFault) × (ended ≡ by_doubts strict listed)
     × Leaves PlayFault.Write
-    (Judges (doubts_stages texts.database texts.bindings texts.script)
-    (AreLeftIn files texts.database texts.bindings texts.script)) old new listed
+    (Judges (doubts_stages texts.database texts.bindings texts.known)
+    (AreLeftIn files texts.database texts.bindings texts.known)) old new listed
 
 -- ---- what is edited
 
@@ -182,10 +181,6 @@ new_log_stage log = reading_stage Input.NewLog (option_map new_log_fault (log_fa
 abbrev pub two_logs_stages : List ℕ → List ℕ → List Stage
 two_logs_stages old new = log_stage old ∷ new_log_stage new ∷ []
 
--- these are the bytes of a log, and its lines
-abbrev pub IsReadLog : List ℕ → ReadLog → Type 0
-IsReadLog bytes read = (read.text.items ≡ bytes) × (log_of read.lines.items ≡ lines bytes)
-
 -- the script makes the new log of the old one, and has nothing if they have the same lines
 abbrev pub IsDifferenceOf : ScriptForm → List ℕ → List ℕ → List ℕ → Type 0
 IsDifferenceOf form old new script =
@@ -199,13 +194,13 @@ script_size_stage script = judging_stage
 -- one of two logs is refused
 abbrev pub AreRefused : {A : Type 0} → InputTexts → Result A PlayFault → Type 0
 AreRefused texts made = (found : PlayFault) × (made ≡ Err found)
-    × IsFoundIn (two_logs_stages texts.log texts.script) found
+    × IsFoundIn (two_logs_stages texts.log texts.new_log) found
 
 -- the script that is made of two logs
 abbrev pub JudgesScript : ScriptForm → InputTexts → Result (Reported (Unit {0})) PlayFault → Type 0
 JudgesScript form texts made = AreRefused texts made
-    ⊎ ((script : List ℕ) × IsDifferenceOf form texts.log texts.script script
-    × Judges (two_logs_stages texts.log texts.script ++ script_size_stage script ∷ [])
+    ⊎ ((script : List ℕ) × IsDifferenceOf form texts.log texts.new_log script
+    × Judges (two_logs_stages texts.log texts.new_log ++ script_size_stage script ∷ [])
     (λ whole. whole.text.items ≡ script) made)
 
 -- what a run leaves that writes it
@@ -241,7 +236,7 @@ ReadsWith reads from old new =
 abbrev pub JudgesEditTo : InputTexts → Editing → Option ReportView
     → Result (Reported EditRun) PlayFault → Type 0
 JudgesEditTo texts editing report made = AreRefused texts made
-    ⊎ ((script : List ℕ) × IsDifferenceOf (form_of editing) texts.log texts.script script
+    ⊎ ((script : List ℕ) × IsDifferenceOf (form_of editing) texts.log texts.new_log script
     × Judges (edit_stages texts.database texts.bindings texts.log script editing)
     (IsMadeEdit (record texts { script = script }) editing report) made)
 

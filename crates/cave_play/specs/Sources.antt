@@ -1,17 +1,15 @@
 -- The bytes of the inputs of a run, and what is known of them before they are read.
-use Rattle.std.specs.Prelude.{◌≡◌, ℕ, ⊤, List, Option, None, Some, ◌⊎◌, ◌+◌, ◌<◌, ◌≤◌, Bool, true}
-use Rattle.std.specs.Prelude.{false, ◌++◌, length, MatchResult, Result, [], ◌∷◌, drop, map}
-use Rattle.std.specs.Prelude.{if◌then◌else◌}
+use Rattle.std.specs.Prelude.{◌≡◌, ℕ, ⊤, List, Option, None, Some, ◌⊎◌, ◌<◌, ◌≤◌, false, length}
+use Rattle.std.specs.Prelude.{MatchResult, Result, [], ◌∷◌, drop, map, if◌then◌else◌}
+use Rattle.cave_play.specs.declared.inputs.CaveReaders.{CaveReaders}
 use Rattle.cave_play.specs.declared.inputs.Inputs.{Inputs}
+use Rattle.cave_play.specs.declared.inputs.OneLog.{OneLog}
+use Rattle.cave_play.specs.declared.fault.PlayFault.{PlayFault}
+use Rattle.cave_play.specs.declared.inputs.Readers.{Readers}
 use Rattle.std.specs.Global.{Vec}
-use Rattle.std.specs.Io.KnownBytes.{Consumes, IsAtEnd}
 use Rattle.base_lines.specs.Limits.{MAX_INPUT_BYTES}
 use Rattle.cave_play.specs.Stages.{too_large, IsOutsideOf}
 use Rattle.play_command.specs.declared.line.Input.{Input}
-use Rattle.cave_play.specs.declared.fault.PlayFault.{PlayFault}
-use Rattle.cave_play.specs.declared.inputs.CaveReaders.{CaveReaders}
-use Rattle.cave_play.specs.declared.inputs.OneLog.{OneLog}
-use Rattle.cave_play.specs.declared.inputs.Readers.{Readers}
 
 -- the bytes are those that a reader is known to have left, if that is known
 abbrev pub Says : Option (List ℕ) → List ℕ → Type 0
@@ -23,7 +21,9 @@ pub record InputTexts : Type 0 where
   pub database : List ℕ
   pub bindings : List ℕ
   pub log : List ℕ
+  pub new_log : List ℕ
   pub script : List ℕ
+  pub known : List ℕ
 
 -- a reading failed, or the input is too large
 abbrev pub IsUnread : Input → List ℕ → PlayFault → Type 0
@@ -35,18 +35,6 @@ abbrev pub IsReading : Option (List ℕ) → Input → Result (Vec ℕ) PlayFaul
 IsReading known from result = (bytes : List ℕ) × Says known bytes
     × MatchResult result (λ text. (text.items ≡ bytes) × (length bytes ≤ MAX_INPUT_BYTES))
     (IsUnread from bytes)
-
--- one ask of a reader added some bytes to the input, or reached the reader's end
-pub record Gives (old new : Option (List ℕ)) (before after : List ℕ) (some : Bool) : Type 0 where
-  pub bytes : (given : List ℕ) × (after ≡ before ++ given) × Consumes old new given
-  pub more : some ≡ true → length before < length after
-  pub end : some ≡ false → (after ≡ before) × IsAtEnd new
-
--- one ask failed, or took the bytes that were too many
-abbrev pub Exceeds : Input → Option (List ℕ) → Option (List ℕ) → List ℕ → PlayFault → Type 0
-Exceeds from old new before found = IsOutsideOf (Some from) found
-    ⊎ ((given : List ℕ) × Consumes old new given
-    × (MAX_INPUT_BYTES < length before + length given) × (found ≡ too_large from))
 
 -- the bytes of each input that wasn't read, if they are known; the logs come one after another, and
 -- a run has at most one of the last three
@@ -96,13 +84,14 @@ pub record IsTaken (from : Input) (old new : Held) : Type 0 where
 abbrev pub without_cave : Held → Held
 without_cave held = record held { cave = None; bindings = None }
 
--- the texts are those that the inputs are known to have, if that is known; the last is that of a
--- script, or of what is read in its place
-pub record AreHeld (third : Input) (held : Held) (texts : InputTexts) : Type 0 where
+-- the texts are those that the inputs are known to have, if that is known
+pub record AreHeld (held : Held) (texts : InputTexts) : Type 0 where
   pub database : Says held.cave texts.database
   pub bindings : Says held.bindings texts.bindings
   pub log : Says (next_log held.logs) texts.log
-  pub script : Says (held_for third held) texts.script
+  pub new_log : Says held.new_log texts.new_log
+  pub script : Says held.script texts.script
+  pub known : Says held.known texts.known
 
 -- inputs were read, one after another
 abbrev pub AreRead : {I : Type 0} → (Input → I → I → Type 0) → List Input → I → I → Type 0
@@ -153,4 +142,4 @@ module _ {C B L S : Type 0} (left_database : C → Option (List ℕ))
   -- the texts are those that the readers of the inputs are known to have left, if that is known
   abbrev pub AreTextsOf : Inputs C B L S → InputTexts → Type 0
   AreTextsOf inputs texts =
-      AreHeld Input.Script (held_of inputs.cave (inputs.log ∷ []) inputs.script) texts
+      AreHeld (held_of inputs.cave (inputs.log ∷ []) inputs.script) texts

@@ -1,8 +1,9 @@
 -- The fault that each input or output of a run decides, the stages of runs in their order, where in
 -- them a fault is found, and what a run leaves. The stages of two logs are in `Output.antt`.
 use Rattle.std.specs.Prelude.{ℕ, Bool, List, length, nat_lt, ◌||◌, ◌==◌, if◌then◌else◌, Option}
-use Rattle.std.specs.Prelude.{None, Some, option_map, Result, Err, Ok, [], ◌∷◌, ◌++◌, ◌≡◌, take}
-use Rattle.std.specs.Prelude.{◌⊎◌, ⊤, MatchResult}
+use Rattle.std.specs.Prelude.{None, Some, option_and_then, option_map, Result, Err, Ok, [], ◌∷◌}
+use Rattle.std.specs.Prelude.{◌++◌, ◌≡◌, take, ◌⊎◌, ⊤, MatchResult}
+use Rattle.std.specs.Result.{result_err, result_ok}
 use Rattle.std.specs.Str.Lines.{lines}
 use Rattle.check_tables.specs.Clues.{clue_of}
 use Rattle.cave_data.specs.Reads.{fault as cave_fault}
@@ -72,17 +73,7 @@ unfoldable pub lines_fault : List (List ℕ) → Option PlayFault
 lines_fault log = or_too_many (first_bad_line log 1) (length log)
 
 unfoldable pub log_fault : List ℕ → Option PlayFault
-log_fault bytes = if nat_lt MAX_INPUT_BYTES (length bytes)
-    then Some (PlayFault.Log LogFault.TooLarge) else lines_fault (lines bytes)
-
-abbrev pub first_malformed : Result (List Applied) ScriptRefusal → Option PlayFault
-first_malformed (Err (ScriptRefusal.Malformed line flaw)) =
-    Some (PlayFault.Script (ScriptFault.Malformed line flaw))
-first_malformed _ = None
-
-unfoldable pub script_fault : Bool → List ℕ → Option PlayFault
-script_fault guarded bytes = if nat_lt MAX_INPUT_BYTES (length bytes)
-    then Some (PlayFault.Script ScriptFault.TooLarge) else first_malformed (script_by guarded bytes)
+log_fault bytes = option_or (input_size_fault Input.Log bytes) (lines_fault (lines bytes))
 
 -- the fault of a run in which a session couldn't be opened
 abbrev pub opening_fault : OpenFault → PlayFault
@@ -98,7 +89,11 @@ script_refusal (ScriptRefusal.Malformed line flaw) =
     PlayFault.Script (ScriptFault.Malformed line flaw)
 script_refusal ScriptRefusal.Memory = PlayFault.Memory
 
--- ---- the fault of an output, and of items
+unfoldable pub script_fault : Bool → List ℕ → Option PlayFault
+script_fault guarded bytes = option_or (input_size_fault Input.Script bytes)
+    (option_map script_refusal (result_err (script_by guarded bytes)))
+
+-- ---- the fault of an output
 
 -- the fault of an output of this many bytes: a log and a script may have as many as an input
 abbrev pub size_fault : EditView → ℕ → Option PlayFault
@@ -114,21 +109,6 @@ abbrev pub bytes_to_read : EditView → Bool → List Applied → Game → EndsO
 bytes_to_read view guarded items game ends =
     length (ended_view view (ends_after_items items game ends)
     (text_to_read view guarded items game))
-
--- the fault of the output of an edit of a log, if the script spells items
-abbrev pub output_fault : EditView → Bool → List ℕ → ℕ → List ℕ
-    → Result (List Applied) ScriptRefusal → Option PlayFault
-output_fault view guarded log seed script (Ok items) =
-    size_fault view
-    (bytes_to_read view guarded items (game_of seed (lines log)) (log_ends log script))
-output_fault view guarded log seed script (Err refusal) = None
-
--- if the run is strict, the fault of the first of the items of a script that is refused, if it
--- spells some, each in the game that those before it left
-abbrev pub fault_of_items : Bool → Game → Result (List Applied) ScriptRefusal → Option PlayFault
-fault_of_items strict game (Ok items) =
-    option_map PlayFault.Refused (ending_refusal strict items game)
-fault_of_items strict game (Err refusal) = None
 
 -- ---- stages
 
@@ -173,16 +153,21 @@ abbrev pub play_stages : List ℕ → List ℕ → List ℕ → ℕ → List Sta
 play_stages database bindings log seed =
     judging_stage (large_seed seed) ∷ cave_stages database bindings ++ log_stage log ∷ []
 
--- if the run is strict, the items of the script are judged in the game
-abbrev pub strict_stage : Bool → Game → Bool → List ℕ → Stage
-strict_stage strict game guarded script =
-    judging_stage (fault_of_items strict game (script_by guarded script))
+-- what is decided of the items that the script spells, if it spells some
+abbrev pub items_stage : (List Applied → Option PlayFault) → Bool → List ℕ → Stage
+items_stage decides guarded script =
+    judging_stage (option_and_then decides (result_ok (script_by guarded script)))
 
--- what is printed is judged by its size, if a run may read it again
+-- if the run is strict, the first item that is refused, each in the game that those before it left
+abbrev pub strict_stage : Bool → Game → Bool → List ℕ → Stage
+strict_stage strict game guarded script = items_stage
+    (λ items. option_map PlayFault.Refused (ending_refusal strict items game)) guarded script
+
+-- the size of what is printed, if a run may read it again
 abbrev pub size_stage : List ℕ → List ℕ → Editing → Stage
-size_stage log script editing =
-    judging_stage (output_fault editing.view editing.guarded log editing.seed script
-    (script_by editing.guarded script))
+size_stage log script editing = items_stage
+    (λ items. size_fault editing.view (bytes_to_read editing.view editing.guarded items
+    (game_of editing.seed (lines log)) (log_ends log script))) editing.guarded script
 
 -- first the seed is judged, then the distance of checkpoints, the cave, the log, the script, its
 -- items, and last the size of what is printed

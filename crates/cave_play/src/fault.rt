@@ -3,14 +3,16 @@
 ghost use Rattle.std.specs.Prelude.{◌≡◌};
 ghost use Rattle.cave_play.specs.declared.fault.PlayFault.TheVariants.{Memory};
 ghost use Rattle.cave_play.specs.Fault.{status_of, input_of, faulty_line};
+ghost use Rattle.cave_play.specs.Stages.{opening_fault, script_refusal};
 
 use base_lines::LineFault;
+use cave_replay::OpenFault;
 use check_doubts::{Doubt, Source};
 use check_tables::Clue;
 use data_rows::{CaveError, Expected, FaultSite};
 use play_command::Input;
 use play_edits::Refusal;
-use replay_scripts::{EditFlaw, ScriptFlaw};
+use replay_scripts::{EditFlaw, ScriptFlaw, ScriptRefusal};
 use std::alloc::AllocError;
 use std::fmt;
 use thiserror::Error;
@@ -136,6 +138,33 @@ impl From<AllocError> for PlayFault {
 
     fn from(_: AllocError) -> PlayFault {
         PlayFault::Memory
+    }
+}
+
+impl From<OpenFault> for PlayFault {
+    ghost from_gives = { λ fault found. found ≡ opening_fault fault };
+
+    fn from(fault: OpenFault) -> PlayFault {
+        match fault {
+            OpenFault::BadEvery => PlayFault::Every,
+            OpenFault::BadLine(line, flaw) => PlayFault::Log(LogFault::BadLine(line, flaw)),
+            OpenFault::LogFull => PlayFault::Log(LogFault::Full),
+            OpenFault::BadSeed => PlayFault::Seed,
+            OpenFault::Memory => PlayFault::Memory,
+        }
+    }
+}
+
+impl From<ScriptRefusal> for PlayFault {
+    ghost from_gives = { λ fault found. found ≡ script_refusal fault };
+
+    fn from(fault: ScriptRefusal) -> PlayFault {
+        match fault {
+            ScriptRefusal::Malformed(line, flaw) => {
+                PlayFault::Script(ScriptFault::Malformed(line, flaw))
+            }
+            ScriptRefusal::Memory => PlayFault::Memory,
+        }
     }
 }
 

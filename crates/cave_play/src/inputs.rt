@@ -1,17 +1,16 @@
 //! Where a run has its inputs from, how one is read to its end within a limit, and the readers.
 
-ghost use Rattle.std.specs.Prelude.{◌≡◌, ◌<◌, ◌≤◌, length, IfOk, IfErr, vec_len};
-ghost use Rattle.base_lines.specs.Limits as defined;
+ghost use Rattle.std.specs.Prelude.{◌≡◌};
 ghost use Rattle.play_command.specs.declared.line.Input.{Input};
 ghost use Rattle.cave_play.specs.Stages.{too_large};
-ghost use Rattle.cave_play.specs.Sources.{AreReadersOf, Exceeds, Gives, Held, IsOneLogOf};
-ghost use Rattle.cave_play.specs.Sources.{IsReading, IsTaken, held_by, held_by_one, held_for};
+ghost use Rattle.cave_play.specs.Sources.{AreReadersOf, Held, IsOneLogOf, IsReading, IsTaken};
+ghost use Rattle.cave_play.specs.Sources.{held_by, held_by_one, held_for};
 
 use crate::fault::{LogFault, PlayFault, ScriptFault};
 use base_lines::limits::MAX_INPUT_BYTES;
 use data_rows::{Cause, CaveError, FaultSite};
 use play_command::Input;
-use std::alloc::{AllocError, Global};
+use std::alloc::Global;
 use std::io::Read;
 
 /// Where a run has its inputs from. A run asks for an input when the turn of that input comes to be
@@ -37,48 +36,22 @@ const PIECE_BYTES: usize = 2_048;
 pub fn read<R: Read>(alloc: Global, input: Input, reader: &mut R) -> Result<Vec<u8>, PlayFault>
     ensures { IsReading (R.remaining reader.old) input result }
 {
-    let mut piece = zeros(alloc, PIECE_BYTES)?;
+    let mut room = vec![in alloc; 0; PIECE_BYTES]?;
+    let piece = room.as_mut_slice();
     let mut text = Vec::new(alloc);
     'pieces: loop {
-        match read_more(input, reader, piece.as_mut_slice(), &mut text) {
-            Ok(true) => {}
-            Ok(false) => return Ok(text),
-            Err(fault) => return Err(fault),
+        let count = match reader.read(piece) {
+            Ok(count) => count,
+            Err(_) => return Err(PlayFault::Read(input)),
+        };
+        if count == 0 {
+            return Ok(text);
         }
+        if count > MAX_INPUT_BYTES - text.len() {
+            return Err(too_large(input));
+        }
+        text.extend_from_slice(&piece[..count])?;
     }
-}
-
-/// That many zero bytes, to be read into.
-fn zeros(alloc: Global, count: usize) -> Result<Vec<u8>, AllocError>
-    ensures { IfOk result (λ piece. vec_len piece ≡ count) }
-{
-    vec![in alloc; 0; count]
-}
-
-/// Reads once, appends what came, and returns whether anything came.
-fn read_more<R: Read>(
-    input: Input,
-    reader: &mut R,
-    piece: &mut [u8],
-    text: &mut Vec<u8>,
-) -> Result<bool, PlayFault>
-    requires room { 0 < length piece.old }
-    requires within { vec_len text.old ≤ defined.MAX_INPUT_BYTES }
-    ensures given { IfOk result
-        (Gives (R.remaining reader.old) (R.remaining reader.new) text.old.items text.new.items) }
-    ensures within { IfOk result (λ _. vec_len text.new ≤ defined.MAX_INPUT_BYTES) }
-    ensures over { IfErr result
-        (Exceeds input (R.remaining reader.old) (R.remaining reader.new) text.old.items) }
-{
-    let count = match reader.read(piece) {
-        Ok(count) => count,
-        Err(_) => return Err(PlayFault::Read(input)),
-    };
-    if count > MAX_INPUT_BYTES - text.len() {
-        return Err(too_large(input));
-    }
-    text.extend_from_slice(&piece[..count])?;
-    Ok(count > 0)
 }
 
 /// The fault of an input that has too many bytes.

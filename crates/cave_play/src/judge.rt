@@ -3,25 +3,20 @@
 ghost use Rattle.std.specs.Prelude.{◌≡◌, ◌⊎◌, ℕ, ◌^◌, ◌<◌, List, [], ◌∷◌, None, Some, Ok, IfOk};
 ghost use Rattle.std.specs.Prelude.{MatchResult, length};
 ghost use Rattle.std.specs.Str.Lines.{lines};
-ghost use Rattle.replay_checkpoints.specs.Spacing.{IsSpaced};
 ghost use Rattle.replay_edits.specs.Edit.{game_of};
 ghost use Rattle.replay_scripts.specs.Guards.{IsScriptBy, script_by};
 ghost use Rattle.replay_scripts.specs.Views.{IsFaultOf, items_of};
 ghost use Rattle.cave_play.specs.Sources.{Says, IsTaken, next_log, without_cave, Leads};
-ghost use Rattle.cave_play.specs.Stages.{large_seed, every_fault, lines_fault, script_refusal};
-ghost use Rattle.cave_play.specs.Stages.{cave_refusal, opening_fault, Judges};
-ghost use Rattle.cave_play.specs.Stages.{judging_stage, cave_stages, log_stage, script_stage};
+ghost use Rattle.cave_play.specs.Stages.{large_seed, every_fault, cave_refusal, Judges};
+ghost use Rattle.cave_play.specs.Stages.{cave_stages, log_stage, script_stage};
 ghost use Rattle.cave_play.specs.Output.{IsReadOf};
-ghost use Rattle.play_machine.specs.Machine.{HoldsGame};
 ghost use Rattle.play_machine.specs.Moments.{noted_of};
 ghost use Rattle.play_machine.specs.Watch.{IsEndOf, NotesMore};
 
-use crate::fault::{LogFault, PlayFault, ScriptFault};
+use crate::fault::PlayFault;
 use crate::inputs::Sources;
-use base_lines::Meter;
 use base_lines::limits::{is_bad_every, is_large_seed};
 use cave_data::Cave;
-use cave_replay::{OpenFault, Session};
 use check_tables::clue_of;
 use data_rows::{Cause, CaveError};
 use play_command::Input;
@@ -94,42 +89,6 @@ pub(crate) fn read_cave<I: Sources>(alloc: Global, inputs: &mut I) -> Result<Rea
     }
 }
 
-/// The fault of a run in which a session couldn't be opened.
-pub(crate) fn opening_fault(fault: OpenFault) -> PlayFault
-    ensures { result ≡ opening_fault fault }
-{
-    match fault {
-        OpenFault::BadEvery => PlayFault::Every,
-        OpenFault::BadLine(line, flaw) => PlayFault::Log(LogFault::BadLine(line, flaw)),
-        OpenFault::LogFull => PlayFault::Log(LogFault::Full),
-        OpenFault::BadSeed => PlayFault::Seed,
-        OpenFault::Memory => PlayFault::Memory,
-    }
-}
-
-/// Plays a log in a cave.
-pub(crate) fn open_session<'a>(
-    alloc: Global,
-    machine: CaveMachine<'a>,
-    log: &[u8],
-    seed: u32,
-    every: u32,
-) -> Result<Session<CaveMachine<'a>>, PlayFault>
-    requires seed_fits { large_seed seed ≡ None }
-    requires every_fits { every_fault every ≡ None }
-    ensures judged { Judges (judging_stage (lines_fault (lines log.now)) ∷ [])
-        (HoldsGame machine.entry.rules.cave.now (game_of seed (lines log.now))) result }
-    ensures every { IfOk result (λ session. session.every ≡ every) }
-    ensures spaced { IfOk result (λ session.
-        IsSpaced session.every session.checkpoints (length session.game.log)) }
-{
-    let mut meter = Meter::new();
-    match Session::open(alloc, machine, seed, log, every, &mut meter) {
-        Ok(session) => Ok(session),
-        Err(fault) => Err(opening_fault(fault)),
-    }
-}
-
 /// Reads the next log and plays it in a cave, for a watch to see.
 pub(crate) fn watch_play<W: Watch, I: Sources>(
     alloc: Global,
@@ -148,10 +107,8 @@ pub(crate) fn watch_play<W: Watch, I: Sources>(
     ensures leads { Leads I.Reads inputs.old inputs.new }
 {
     let log = inputs.read(alloc, Input::Log)?;
-    match watch_log(alloc, machine, &log, seed, watch) {
-        Ok(end) => Ok(end),
-        Err(fault) => Err(opening_fault(fault)),
-    }
+    let end = watch_log(alloc, machine, &log, seed, watch)?;
+    Ok(end)
 }
 
 /// A script with the text from which it was read.
@@ -176,10 +133,8 @@ pub(crate) fn read_script<I: Sources>(
     ensures leads { Leads I.Reads inputs.old inputs.new }
 {
     let text = inputs.read(alloc, Input::Script)?;
-    match script_in(alloc, &text, guarded) {
-        Ok(script) => Ok(ReadScript { script, text }),
-        Err(fault) => Err(script_refusal(fault)),
-    }
+    let script = script_in(alloc, &text, guarded)?;
+    Ok(ReadScript { script, text })
 }
 
 /// The script of a text, some of whose lines may be guards.
@@ -194,17 +149,5 @@ fn script_in(alloc: Global, text: &[u8], guarded: bool) -> Result<Script, Script
         Script::read_guarded(alloc, text)
     } else {
         Script::read(alloc, text)
-    }
-}
-
-/// The fault of a run whose script was refused.
-fn script_refusal(fault: ScriptRefusal) -> PlayFault
-    ensures { result ≡ script_refusal fault }
-{
-    match fault {
-        ScriptRefusal::Malformed(line, flaw) => {
-            PlayFault::Script(ScriptFault::Malformed(line, flaw))
-        }
-        ScriptRefusal::Memory => PlayFault::Memory,
     }
 }

@@ -16,9 +16,10 @@ ghost use Rattle.play_edits.specs.Ends.{log_ends};
 
 use crate::fault::PlayFault;
 use crate::inputs::{Inputs, OneLog, Sources};
-use crate::judge::{check_every, check_seed, open_session, read_cave, read_script};
+use crate::judge::{check_every, check_seed, read_cave, read_script};
 use crate::output::{Reported, write_report};
 use crate::views::{check_text, left_in, play_view_text};
+use base_lines::Meter;
 use base_lines::limits::is_large_input;
 use cave_data::Cave;
 use cave_replay::Session;
@@ -40,7 +41,7 @@ pub fn make_check<I: Sources>(
     inputs: &mut I,
     view: CheckView,
 ) -> Result<Reported<()>, PlayFault>
-    ensures judged { (texts : InputTexts) × AreHeld Input.Script (I.held inputs.old) texts
+    ensures judged { (texts : InputTexts) × AreHeld (I.held inputs.old) texts
         × Judges (cave_stages texts.database texts.bindings)
         (λ made. IsChecked view texts.database texts.bindings made.text.items) result }
     ensures leads { Leads I.Reads inputs.old inputs.new }
@@ -58,9 +59,9 @@ pub fn make_doubts<I: Sources>(
     inputs: &mut I,
     files: &DoubtFiles<'_>,
 ) -> Result<Reported<Vec<Doubt>>, PlayFault>
-    ensures judged { (texts : InputTexts) × AreHeld Input.Known (I.held inputs.old) texts
-        × Judges (doubts_stages texts.database texts.bindings texts.script)
-        (AreLeftIn files.now texts.database texts.bindings texts.script) result }
+    ensures judged { (texts : InputTexts) × AreHeld (I.held inputs.old) texts
+        × Judges (doubts_stages texts.database texts.bindings texts.known)
+        (AreLeftIn files.now texts.database texts.bindings texts.known) result }
     ensures leads { Leads I.Reads inputs.old inputs.new }
 {
     let read = read_cave(alloc, inputs)?;
@@ -77,7 +78,7 @@ pub fn make_play<I: Sources>(
     seed: u32,
     view: PlayView,
 ) -> Result<Reported<()>, PlayFault>
-    ensures judged { (texts : InputTexts) × AreHeld Input.Script (I.held inputs.old) texts
+    ensures judged { (texts : InputTexts) × AreHeld (I.held inputs.old) texts
         × Judges (play_stages texts.database texts.bindings texts.log seed)
         (λ made. IsPlayed texts.database texts.bindings texts.log seed view made.text.items) result }
     ensures leads { Leads I.Reads inputs.old inputs.new }
@@ -99,7 +100,7 @@ pub fn make_edit<I: Sources>(
     editing: Editing,
     report: Option<ReportView>,
 ) -> Result<Reported<EditRun>, PlayFault>
-    ensures judged { (texts : InputTexts) × AreHeld Input.Script (I.held inputs.old) texts
+    ensures judged { (texts : InputTexts) × AreHeld (I.held inputs.old) texts
         × Judges (edit_stages texts.database texts.bindings texts.log texts.script editing)
         (IsMadeEdit texts editing report) result }
     ensures leads { Leads I.Reads inputs.old inputs.new }
@@ -134,7 +135,9 @@ fn edit_in_cave<I: Sources>(
     let lexicon = Lexicon::build(alloc, cave)?;
     let machine = CaveMachine::new(cave, &lexicon);
     let bytes = inputs.read(alloc, Input::Log)?;
-    let mut session = open_session(alloc, machine, &bytes, editing.seed, editing.every)?;
+    let Editing { seed, every, .. } = editing;
+    let mut meter = Meter::new();
+    let mut session = Session::open(alloc, machine, seed, &bytes, every, &mut meter)?;
     let made = edit_session(alloc, &mut session, &bytes, inputs, editing, report);
     drop(session);
     made

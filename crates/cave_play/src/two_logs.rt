@@ -4,15 +4,14 @@ ghost use Rattle.std.specs.Prelude.{◌≡◌, ℕ, List, [], ◌∷◌, Some};
 ghost use Rattle.std.specs.Str.Lines.{lines};
 ghost use Rattle.replay_edits.specs.Edit.{log_of};
 ghost use Rattle.cave_play.specs.Sources.{AreTextsOf, InputTexts, Says, IsReading, AreHeld};
-ghost use Rattle.cave_play.specs.Sources.{IsTaken, next_log, Leads};
-ghost use Rattle.cave_play.specs.Stages.{lines_fault, Judges, judging_stage, log_stage};
-ghost use Rattle.cave_play.specs.Output.{IsCompared, IsReadLog, JudgesEditTo, JudgesScript};
-ghost use Rattle.cave_play.specs.Output.{RunsEditTo, RunsScript, new_log_fault, new_log_stage};
-ghost use Rattle.cave_play.specs.Output.{ReadsWith, two_logs_stages, with_compared};
+ghost use Rattle.cave_play.specs.Sources.{next_log, Leads};
+ghost use Rattle.cave_play.specs.Stages.{Judges, judging_stage, lines_fault};
+ghost use Rattle.cave_play.specs.Output.{IsCompared, JudgesEditTo, JudgesScript, ReadsWith};
+ghost use Rattle.cave_play.specs.Output.{RunsEditTo, RunsScript, new_log_fault, two_logs_stages};
+ghost use Rattle.cave_play.specs.Output.{with_compared};
 
 use crate::fault::PlayFault;
 use crate::inputs::{Inputs, OneLog, Sources, too_large};
-use crate::judge::opening_fault;
 use crate::output::{Reported, write_report};
 use crate::run::make_edit;
 use base_lines::limits::{USUAL_EVERY, is_large_input};
@@ -24,13 +23,6 @@ use replay_edits::LineText;
 use std::alloc::Global;
 use std::io::{Read, Write};
 use std::mem;
-
-/// A log with its lines.
-#[derive(Drop)]
-pub(crate) struct ReadLog {
-    pub(crate) text: Vec<u8>,
-    pub(crate) lines: Vec<LineText>,
-}
 
 /// A log, and the script of the edits that make another one of it.
 #[derive(Drop)]
@@ -44,23 +36,8 @@ fn log_lines(alloc: Global, log: &[u8]) -> Result<Vec<LineText>, PlayFault>
     ensures judged { Judges (judging_stage (lines_fault (lines log.now)) ∷ [])
         (λ copies. log_of copies.items ≡ lines log.now) result }
 {
-    match read_lines(alloc, USUAL_EVERY, log, 0) {
-        Ok(copies) => Ok(copies),
-        Err(fault) => Err(opening_fault(fault)),
-    }
-}
-
-fn read_log<I: Sources>(alloc: Global, inputs: &mut I) -> Result<ReadLog, PlayFault>
-    ensures judged { (bytes : List ℕ) × Says (next_log (I.held inputs.old).logs) bytes
-        × Judges (log_stage bytes ∷ []) (IsReadLog bytes) result }
-    ensures taken { IsTaken Input.Log (I.held inputs.old) (I.held inputs.new) }
-    ensures leads { Leads I.Reads inputs.old inputs.new }
-{
-    let text = inputs.read(alloc, Input::Log)?;
-    match log_lines(alloc, &text) {
-        Ok(lines) => Ok(ReadLog { text, lines }),
-        Err(fault) => Err(fault),
-    }
+    let lines = read_lines(alloc, USUAL_EVERY, log, 0)?;
+    Ok(lines)
 }
 
 /// The fault of the log that edits are to make.
@@ -70,20 +47,6 @@ fn new_log_fault(fault: PlayFault) -> PlayFault
     match fault {
         PlayFault::Log(refused) => PlayFault::NewLog(refused),
         other => other,
-    }
-}
-
-/// Reads the log that edits are to make.
-fn read_new_log<I: Sources>(alloc: Global, inputs: &mut I) -> Result<ReadLog, PlayFault>
-    ensures judged { (bytes : List ℕ) × Says (I.held inputs.old).new_log bytes
-        × Judges (new_log_stage bytes ∷ []) (IsReadLog bytes) result }
-    ensures taken { IsTaken Input.NewLog (I.held inputs.old) (I.held inputs.new) }
-    ensures leads { Leads I.Reads inputs.old inputs.new }
-{
-    let text = inputs.read(alloc, Input::NewLog)?;
-    match log_lines(alloc, &text) {
-        Ok(lines) => Ok(ReadLog { text, lines }),
-        Err(fault) => Err(new_log_fault(fault)),
     }
 }
 
@@ -100,14 +63,16 @@ fn compare<I: Sources>(
     ensures bindings { (I.held inputs.new).bindings ≡ (I.held inputs.old).bindings }
     ensures leads { Leads I.Reads inputs.old inputs.new }
 {
-    let old = read_log(alloc, inputs)?;
-    let made = read_new_log(alloc, inputs)?;
+    let log = inputs.read(alloc, Input::Log)?;
+    let old = log_lines(alloc, &log)?;
+    let new_log = inputs.read(alloc, Input::NewLog)?;
+    let made = match log_lines(alloc, &new_log) {
+        Ok(lines) => lines,
+        Err(fault) => return Err(new_log_fault(fault)),
+    };
     let mut script = Vec::new(alloc);
-    push_difference(alloc, &mut script, &old.lines, &made.lines, form)?;
-    Ok(Compared {
-        log: old.text,
-        script,
-    })
+    push_difference(alloc, &mut script, &old, &made, form)?;
+    Ok(Compared { log, script })
 }
 
 /// Makes the script of the edits that make one log of another, unless it is larger than a script may
@@ -117,7 +82,7 @@ pub fn make_script<I: Sources>(
     inputs: &mut I,
     form: ScriptForm,
 ) -> Result<Reported<()>, PlayFault>
-    ensures judged { (texts : InputTexts) × AreHeld Input.NewLog (I.held inputs.old) texts
+    ensures judged { (texts : InputTexts) × AreHeld (I.held inputs.old) texts
         × JudgesScript form texts result }
     ensures leads { Leads I.Reads inputs.old inputs.new }
 {
@@ -177,7 +142,7 @@ pub fn make_edit_to<I: Sources>(
     editing: Editing,
     report: Option<ReportView>,
 ) -> Result<Reported<EditRun>, PlayFault>
-    ensures judged { (texts : InputTexts) × AreHeld Input.NewLog (I.held inputs.old) texts
+    ensures judged { (texts : InputTexts) × AreHeld (I.held inputs.old) texts
         × JudgesEditTo texts editing report result }
     ensures leads { Leads I.Reads inputs.old inputs.new }
 {

@@ -136,13 +136,10 @@ fn do_no<N: RowNotes>(rules: &Rules<'_>, question: &Question, scene: &mut Scene<
     scene.note(Table::No, question_row(question));
     match question {
         Question::Welcome => arrive(rules, start_place(rules.cave), scene),
+        Question::Quit | Question::ScoreQuit => scene.say(Role::Ok),
         Question::Die => bury(rules, scene),
+        Question::Hint(_) | Question::Take(_) | Question::Oyster => scene.say(Role::Ok),
         Question::Dragon => {}
-        Question::Quit
-        | Question::ScoreQuit
-        | Question::Hint(_)
-        | Question::Take(_)
-        | Question::Oyster => scene.say(Role::Ok),
     }
 }
 

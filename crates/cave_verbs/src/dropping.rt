@@ -30,7 +30,7 @@ pub fn drop_object<N: RowNotes>(rules: &Rules<'_>, task: Task, scene: &mut Scene
     let x = task.object;
     let is_held = is_carried(rules, scene.state, x);
     rows! { scene, Table::Drop, VerbStep::Done(Next::Stay);
-        !is_held && rules.is(x, Named::Rod)
+        rules.is(x, Named::Rod) && !is_held
             && is_carried(rules, scene.state, rules.thing(Named::SecondRod))
             => {} -> VerbStep::GoOn(Verb::Drop, rules.thing(Named::SecondRod));
         !is_held => task.default(rules);

@@ -62,13 +62,11 @@ pub fn eat<N: RowNotes>(rules: &Rules<'_>, task: Task, scene: &mut Scene<'_, N>)
     }
 }
 
-impl Task {
-    /// The dwarves are angrier by one, up to the most.
-    fn anger_dwarves<N: RowNotes>(&self, scene: &mut Scene<'_, N>)
-        ensures { Changes N.rows with_more_anger scene.old scene.new }
-    {
-        scene.state.dwarves.anger = scene.state.dwarves.anger.up();
-    }
+/// The dwarves are angrier by one, up to the most.
+fn anger_dwarves<N: RowNotes>(scene: &mut Scene<'_, N>)
+    ensures { Changes N.rows with_more_anger scene.old scene.new }
+{
+    scene.state.dwarves.anger = scene.state.dwarves.anger.up();
 }
 
 /// FEED an object.
@@ -91,7 +89,7 @@ pub fn feed<N: RowNotes>(rules: &Rules<'_>, task: Task, scene: &mut Scene<'_, N>
         rules.is(x, Named::Snake) || rules.is(x, Named::Dragon) => say(Role::NotHungry);
         rules.is(x, Named::Troll) => say(Role::TrollFeed);
         rules.is(x, Named::Dwarf) && is_near(rules, scene.state, food)
-            => task.anger_dwarves(), say(Role::DwarfFeed);
+            => self::anger_dwarves(), say(Role::DwarfFeed);
         rules.is(x, Named::Dwarf) => task.default(rules);
         let is_bear = rules.is(x, Named::Bear);
         is_bear && is_near(rules, scene.state, food)

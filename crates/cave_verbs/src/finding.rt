@@ -48,7 +48,7 @@ pub fn inventory<N: RowNotes>(rules: &Rules<'_>, task: Task, scene: &mut Scene<'
     let listed = listed(rules, scene.state);
     rows! { scene, Table::BareInventory, Next::Stay;
         listed.is_empty() => say(Role::Empty), task.tell_bear(rules);
-        otherwise => say(Role::Holding), task.name_them(listed.as_slice()), task.tell_bear(rules);
+        otherwise => say(Role::Holding), self::name_them(listed.as_slice()), task.tell_bear(rules);
     }
 }
 
@@ -74,18 +74,6 @@ fn listed(rules: &Rules<'_>, state: &State) -> ArrayVec<Object, OBJECTS>
 }
 
 impl Task {
-    /// Each object is named.
-    fn name_them<N: RowNotes>(&self, objects: &[Object], scene: &mut Scene<'_, N>)
-        requires { HasRoom (length objects.now) scene.old }
-        ensures scene { scene_of N.rows scene.new
-            ≡ after_naming objects.now (scene_of N.rows scene.old) }
-        ensures says { GoesOnSaying (length objects.now) scene.old scene.new }
-    {
-        for object in objects {
-            scene.tell(Part::Name(*object));
-        }
-    }
-
     /// Says that the bear follows, if it does.
     #[tactic(auto, unfolding(crate::specs::Finding::bear_along_rows))]
     fn tell_bear<N: RowNotes>(self, rules: &Rules<'_>, scene: &mut Scene<'_, N>)
@@ -95,5 +83,17 @@ impl Task {
         rows! { scene, Table::BearAlong;
             is_carried(rules, scene.state, rules.thing(Named::Bear)) => say(Role::BearFollows);
         }
+    }
+}
+
+/// Each object is named.
+fn name_them<N: RowNotes>(objects: &[Object], scene: &mut Scene<'_, N>)
+    requires { HasRoom (length objects.now) scene.old }
+    ensures scene { scene_of N.rows scene.new
+        ≡ after_naming objects.now (scene_of N.rows scene.old) }
+    ensures says { GoesOnSaying (length objects.now) scene.old scene.new }
+{
+    for object in objects {
+        scene.tell(Part::Name(*object));
     }
 }

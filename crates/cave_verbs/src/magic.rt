@@ -32,17 +32,17 @@ pub fn foo<N: RowNotes>(rules: &Rules<'_>, task: Task, scene: &mut Scene<'_, N>)
     rows! { scene, Table::BareFoo, Next::Stay;
         is_wrong && magic_of(scene.state) == 0 => say(Role::Magic);
         is_wrong => say(Role::FooOrder);
-        k != 4 => task.remember(k), say(Role::Ok);
+        k != 4 => self::remember(k), say(Role::Ok);
         let eggs = rules.thing(Named::Eggs);
-        eggs.is_none() => task.begin_anew(), say(Role::Magic);
-        is_at_home(rules, scene.state, eggs) => task.begin_anew(), say(Role::Magic);
+        eggs.is_none() => self::begin_anew(), say(Role::Magic);
+        is_at_home(rules, scene.state, eggs) => self::begin_anew(), say(Role::Magic);
         is_carried(rules, scene.state, eggs) && is_home_here(rules, scene.state, eggs)
-            => task.begin_anew(), say(Role::Magic);
+            => self::begin_anew(), say(Role::Magic);
         let troll = rules.thing(Named::Troll);
         scene.state.is_gone(eggs) && scene.state.is_gone(troll)
             && has_prop(scene.state, troll, TROLL_CALM)
-            => task.begin_anew(), set_prop(troll, TROLL_RETURNING), task.send_eggs_home(rules);
-        otherwise => task.begin_anew(), task.send_eggs_home(rules);
+            => self::begin_anew(), set_prop(troll, TROLL_RETURNING), task.send_eggs_home(rules);
+        otherwise => self::begin_anew(), task.send_eggs_home(rules);
     }
 }
 
@@ -61,21 +61,6 @@ fn is_out_of_turn(state: &State, k: u16) -> bool
 }
 
 impl Task {
-    /// The word with a number is remembered as the last that was said.
-    fn remember<N: RowNotes>(&self, k: u16, scene: &mut Scene<'_, N>)
-        requires { k < WORDS_PER_CLASS }
-        ensures { Changes N.rows (with_magic (pos k)) scene.old scene.new }
-    {
-        scene.state.talk.magic = Magic::new(k as i16);
-    }
-
-    /// No magic word counts as said from now on.
-    fn begin_anew<N: RowNotes>(&self, scene: &mut Scene<'_, N>)
-        ensures { Changes N.rows (with_magic (pos 0)) scene.old scene.new }
-    {
-        scene.state.talk.magic = Magic::new(0);
-    }
-
     /// A text of the eggs is printed: they appear, vanish, or do neither here. They go home.
     #[tactic(auto, unfolding(crate::specs::Magic::eggs_rows))]
     fn send_eggs_home<N: RowNotes>(self, rules: &Rules<'_>, scene: &mut Scene<'_, N>)
@@ -90,4 +75,19 @@ impl Task {
         }
         scene.move_to(eggs, home(rules, eggs));
     }
+}
+
+/// The word with a number is remembered as the last that was said.
+fn remember<N: RowNotes>(k: u16, scene: &mut Scene<'_, N>)
+    requires { k < WORDS_PER_CLASS }
+    ensures { Changes N.rows (with_magic (pos k)) scene.old scene.new }
+{
+    scene.state.talk.magic = Magic::new(k as i16);
+}
+
+/// No magic word counts as said from now on.
+fn begin_anew<N: RowNotes>(scene: &mut Scene<'_, N>)
+    ensures { Changes N.rows (with_magic (pos 0)) scene.old scene.new }
+{
+    scene.state.talk.magic = Magic::new(0);
 }

@@ -3,11 +3,7 @@ ghost use Rattle.std.specs.Int.{int_rem_euclid};
 ghost use Rattle.turn_scene.specs.Bounds.{HasRoom, parts_of_row};
 ghost use Rattle.cave_verbs.specs.Rows.{ByRows, DoneByRows, rank_of};
 ghost use Rattle.turn_scene.specs.Rows.{Does, noted};
-ghost use Rattle.turn_scene.specs.Effects.{Changes};
-ghost use Rattle.turn_scene.specs.Parts.{with_objects};
-ghost use Rattle.turn_scene.specs.Props as defined;
 ghost use Rattle.turn_scene.specs.Scene.{cave_of};
-ghost use Rattle.world_objects.specs.Objects.{with_prop};
 ghost use Rattle.cave_world.specs.declared.tables.Table.TheVariants as table;
 ghost use Rattle.cave_verbs.specs.Pouring.{water_plant, poured_of, pour_rows, drink_rows};
 ghost use Rattle.cave_verbs.specs.Pouring.{bare_fill_rows, fill_rows};
@@ -56,14 +52,6 @@ fn half(prop: Prop) -> Prop
 }
 
 impl Task {
-    /// The bottle is empty from now on.
-    fn empty_bottle<N: RowNotes>(&self, bottle: Object, scene: &mut Scene<'_, N>)
-        ensures { Changes N.rows (λ s. with_objects (with_prop s.objects bottle
-            defined.BOTTLE_EMPTY) s) scene.old scene.new }
-    {
-        scene.set_prop(bottle, BOTTLE_EMPTY);
-    }
-
     /// The plant and its upper part grow with the water.
     fn water_plant<N: RowNotes>(&self, rules: &Rules<'_>, scene: &mut Scene<'_, N>)
         requires { HasRoom 1 scene.old }
@@ -98,15 +86,15 @@ pub fn pour<N: RowNotes>(rules: &Rules<'_>, task: Task, scene: &mut Scene<'_, N>
         let door = rules.thing(Named::Door);
         let is_at_door = scene.state.at(door);
         is_at_door && pours_oil
-            => task.empty_bottle(bottle), set_prop(door, DOOR_OILED), say(Role::DoorOiled);
+            => set_prop(bottle, BOTTLE_EMPTY), set_prop(door, DOOR_OILED), say(Role::DoorOiled);
         is_at_door
-            => task.empty_bottle(bottle), set_prop(door, DOOR_RUSTY), say(Role::DoorWet);
+            => set_prop(bottle, BOTTLE_EMPTY), set_prop(door, DOOR_RUSTY), say(Role::DoorWet);
         let plant = rules.thing(Named::Plant);
         let is_at_plant = scene.state.at(plant);
-        is_at_plant && pours_water => task.empty_bottle(bottle), task.water_plant(rules)
+        is_at_plant && pours_water => set_prop(bottle, BOTTLE_EMPTY), task.water_plant(rules)
             -> Next::Arrive(scene.state.trail.here);
-        is_at_plant => task.empty_bottle(bottle), say(Role::PlantOil);
-        otherwise => task.empty_bottle(bottle), say(Role::PourGround);
+        is_at_plant => set_prop(bottle, BOTTLE_EMPTY), say(Role::PlantOil);
+        otherwise => set_prop(bottle, BOTTLE_EMPTY), say(Role::PourGround);
     }
 }
 
@@ -126,7 +114,7 @@ pub fn drink<N: RowNotes>(rules: &Rules<'_>, task: Task, scene: &mut Scene<'_, N
         x.is_none() && !is_liquid(water, lake(rules, scene.state)) && !water_at_hand
             => task.ask_what(rules) -> Next::Keep;
         !x.is_none() && !rules.is(x, Named::Water) => say(Role::Ridiculous);
-        water_at_hand => task.empty_bottle(bottle), say(Role::Drunk);
+        water_at_hand => set_prop(bottle, BOTTLE_EMPTY), say(Role::Drunk);
         otherwise => task.default(rules);
     }
 }

@@ -57,29 +57,27 @@ pub fn turn_off<N: RowNotes>(rules: &Rules<'_>, task: Task, scene: &mut Scene<'_
     }
 }
 
-impl Task {
-    /// The prop becomes 1 less what it was.
-    fn flip<N: RowNotes>(&self, object: Object, scene: &mut Scene<'_, N>)
-        ensures { Changes N.rows (λ s. with_objects (with_prop s.objects object
-            (pos 1 -ℤ prop_of s.objects object)) s) scene.old scene.new }
-    {
-        let prop = scene.state.objects.prop(object);
-        scene
-            .state
-            .objects
-            .set_prop(object, Prop::new(1 - prop.value()));
-    }
+/// The prop becomes 1 less what it was.
+fn flip<N: RowNotes>(object: Object, scene: &mut Scene<'_, N>)
+    ensures { Changes N.rows (λ s. with_objects (with_prop s.objects object
+        (pos 1 -ℤ prop_of s.objects object)) s) scene.old scene.new }
+{
+    let prop = scene.state.objects.prop(object);
+    scene
+        .state
+        .objects
+        .set_prop(object, Prop::new(1 - prop.value()));
+}
 
-    /// The text for 2 less the prop is printed.
-    fn look_at_flip<N: RowNotes>(&self, object: Object, scene: &mut Scene<'_, N>)
-        requires { HasRoom 1 scene.old }
-        ensures scene { scene_of N.rows scene.new ≡ after_look_at object
-            (pos 2 -ℤ prop_of scene.old.state.now.objects object) (scene_of N.rows scene.old) }
-        ensures says { GoesOnSaying 1 scene.old scene.new }
-    {
-        let prop = scene.state.objects.prop(object);
-        scene.look(object, 2 - prop.value());
-    }
+/// The text for 2 less the prop is printed.
+fn look_at_flip<N: RowNotes>(object: Object, scene: &mut Scene<'_, N>)
+    requires { HasRoom 1 scene.old }
+    ensures scene { scene_of N.rows scene.new ≡ after_look_at object
+        (pos 2 -ℤ prop_of scene.old.state.now.objects object) (scene_of N.rows scene.old) }
+    ensures says { GoesOnSaying 1 scene.old scene.new }
+{
+    let prop = scene.state.objects.prop(object);
+    scene.look(object, 2 - prop.value());
 }
 
 /// WAVE an object.
@@ -98,7 +96,7 @@ pub fn wave<N: RowNotes>(rules: &Rules<'_>, task: Task, scene: &mut Scene<'_, N>
         let fissure = rules.thing(Named::Fissure);
         is_rod && scene.state.at(fissure)
             && is_carried(rules, scene.state, rules.thing(Named::Rod))
-            && !scene.state.closing.is_closing => task.flip(fissure), task.look_at_flip(fissure);
+            && !scene.state.closing.is_closing => self::flip(fissure), self::look_at_flip(fissure);
         otherwise => task.default(rules);
     }
 }

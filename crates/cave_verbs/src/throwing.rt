@@ -31,7 +31,7 @@ pub fn throw<N: RowNotes>(rules: &Rules<'_>, task: Task, scene: &mut Scene<'_, N
     let x = task.object;
     let is_held = is_carried(rules, scene.state, x);
     rows! { scene, Table::Throw, VerbStep::Done(Next::Stay);
-        !is_held && rules.is(x, Named::Rod)
+        rules.is(x, Named::Rod) && !is_held
             && is_carried(rules, scene.state, rules.thing(Named::SecondRod))
             => {} -> VerbStep::GoOn(Verb::Throw, rules.thing(Named::SecondRod));
         !is_held => task.default(rules);
@@ -66,18 +66,16 @@ fn first_at(place: Place, dwarves: &[Dwarf]) -> Option<usize>
     dwarves.iter().position(|dwarf| dwarf.place == place)
 }
 
-impl Task {
-    /// The first dwarf that is here is killed.
-    #[tactic(auto, unfolding(crate::specs::Throwing::without_first_at))]
-    fn strike<N: RowNotes>(&self, scene: &mut Scene<'_, N>)
-        ensures { Changes N.rows with_one_killed scene.old scene.new }
-    {
-        let state = &mut *scene.state;
-        state.dwarves.kills = state.dwarves.kills.up();
-        if let Some(index) = first_at(state.trail.here, &state.dwarves.each[..PIRATE]) {
-            state.dwarves.each[index].place = Place::new(0);
-            state.dwarves.each[index].has_seen = false;
-        }
+/// The first dwarf that is here is killed.
+#[tactic(auto, unfolding(crate::specs::Throwing::without_first_at))]
+fn strike<N: RowNotes>(scene: &mut Scene<'_, N>)
+    ensures { Changes N.rows with_one_killed scene.old scene.new }
+{
+    let state = &mut *scene.state;
+    state.dwarves.kills = state.dwarves.kills.up();
+    if let Some(index) = first_at(state.trail.here, &state.dwarves.each[..PIRATE]) {
+        state.dwarves.each[index].place = Place::new(0);
+        state.dwarves.each[index].has_seen = false;
     }
 }
 
@@ -94,8 +92,8 @@ fn throw_axe_at_dwarf<N: RowNotes>(rules: &Rules<'_>, task: Task, scene: &mut Sc
         from 6;
         scene.state.stream.draw(3) == 0 => say(Role::AxeMiss), bring(x);
         let is_first_kill = scene.state.dwarves.kills.number() == 0;
-        is_first_kill => task.strike(), say(Role::AxeFirst), bring(x);
-        otherwise => task.strike(), say(Role::AxeKill), bring(x);
+        is_first_kill => self::strike(), say(Role::AxeFirst), bring(x);
+        otherwise => self::strike(), say(Role::AxeKill), bring(x);
     }
 }
 

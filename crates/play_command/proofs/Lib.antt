@@ -1,3 +1,2 @@
 pub mod Cave
-pub mod OneRun
 pub mod Values

@@ -14,11 +14,11 @@ use Rattle.play_command.specs.Asked.{check_views, cover_views, edit_views, play_
 use Rattle.play_command.specs.Asked.{is_given}
 use Rattle.play_command.specs.declared.commands.Argument.{Argument}
 use Rattle.play_command.specs.declared.commands.Form.{Form}
+use Rattle.play_command.specs.declared.commands.CommandName.{CommandName}
+use Rattle.play_command.specs.declared.commands.CommandRow.{CommandRow}
 use Rattle.play_command.specs.declared.commands.Form.TheVariants.{File, Files, Flag, NeededFile}
 use Rattle.play_command.specs.declared.commands.Form.TheVariants.{NeededFiles, Report, Value}
 use Rattle.play_command.specs.declared.commands.Form.TheVariants.{Values, View}
-use Rattle.play_command.specs.declared.commands.CommandName.{CommandName}
-use Rattle.play_command.specs.declared.commands.CommandRow.{CommandRow}
 
 -- ---- the commands by their names
 

@@ -3,7 +3,7 @@ use Rattle.std.specs.Prelude.{◌≡◌, ◌⊎◌, ℕ, Bool, List, [], Option,
 use Rattle.std.specs.Prelude.{option_and_then, option_map, string_bytes, Result, Ok, Err}
 use Rattle.std.specs.Prelude.{if◌then◌else◌, slice_get, unwrap_or, ◌++◌}
 use Rattle.std.specs.Option.{option_map_or}
-use Rattle.clap.specs.Words.{IsAmong, Kinds, Row, all_of, fault_of, first_of, kind_of}
+use Rattle.clap.specs.Words.{App, IsAmong, Kinds, Row, all_of, fault_of, first_of, kind_of}
 use Rattle.clap.specs.Words.{subcommand_of}
 use Rattle.clap.specs.declared.error.kind.ErrorKind.{ErrorKind}
 use Rattle.play_command.specs.Asked.{◌>>=◌, what_of, files_of, is_set, named, named_file}
@@ -96,16 +96,14 @@ IsRunAnswer met (Err (CommandFault.Misuse wrong given)) = (run_of met ≡ Err wr
     × (given.now ≡ option_map_or (λ found. given_for wrong found.1) met [])
 IsRunAnswer met _ = ⊥
 
--- the words of a command line ask for one run at most
-abbrev pub WordsAskForOneRun : Type 0
-WordsAskForOneRun = (met : MetCommand) (one other : Request)
-    → IsRunAnswer met (Ok (Line.Run one)) → IsRunAnswer met (Ok (Line.Run other))
-    → run_in one ≡ run_in other
+-- the answer to words, in which the parser of a program's command finds what is wrong with them, or
+-- a command
+abbrev pub IsAnswerBy : App → List (List ℕ) → Result Line CommandFault → Type 0
+IsAnswerBy app words answer = IsErrorAnswer words (fault_of app words) answer
+    ⊎ ((fault_of app words ≡ []) × IsRunAnswer (subcommand_of app words) answer)
 
--- the answer to words, in which the parser finds a command or what is wrong with them
 abbrev pub IsAnswer : List (List ℕ) → Result Line CommandFault → Type 0
-IsAnswer words answer = ForCave (λ app. IsErrorAnswer words (fault_of app words) answer
-    ⊎ ((fault_of app words ≡ []) × IsRunAnswer (subcommand_of app words) answer))
+IsAnswer words answer = ForCave (λ app. IsAnswerBy app words answer)
 
 -- ---- what is said of a refusal, and the status
 

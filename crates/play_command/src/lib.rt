@@ -6,7 +6,6 @@ mod asked;
 mod commands;
 pub mod fault;
 mod found;
-pub mod laws;
 pub mod line;
 mod read;
 pub mod views;

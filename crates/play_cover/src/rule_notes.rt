@@ -9,12 +9,13 @@ use crate::rule_tables::row_mark;
 use base_text::Text;
 use cave_data::Cave;
 use cave_play::logs::PlayNotes;
-use cave_world::{RuleRow, State, Table};
+use cave_world::{Question, RuleRow, State, Table};
 use check_tables::known::KnownList;
 use check_tables::marks::MarkSet;
 use data_lines::way_lines;
 use play_machine::{Begun, NotedRows, SeenLine, Watch};
 use std::alloc::{AllocError, Global};
+use turn_ends::question_row;
 
 /// Marks rows.
 pub fn note_rows(alloc: Global, rows: &[RuleRow], marks: &mut MarkSet) -> Result<(), AllocError>
@@ -55,7 +56,7 @@ impl Watch for RuleNotes {
 
     #[tactic(auto, using(check_tables::proofs::Noting::more_marked))]
     fn start(&mut self, alloc: Global, _: &Begun<'_>) -> Result<(), AllocError> {
-        let row = RuleRow::OfTable(Table::Questions, 1);
+        let row = RuleRow::OfTable(Table::Questions, question_row(&Question::Welcome));
         self.marks.note(alloc, row_mark(row))
     }
 

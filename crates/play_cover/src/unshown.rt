@@ -17,13 +17,14 @@ use crate::travel_report::missing_ways;
 use base_text::Text;
 use cave_data::Cave;
 use cave_play::logs::PlayNotes;
-use cave_world::{Part, RuleRow, State, Table};
+use cave_world::{Part, Question, RuleRow, State, Table};
 use check_tables::known::{KnownList, put_entries};
 use check_tables::marks::MarkSet;
 use check_tables::travel_words::TravelEntries;
 use data_lines::{WayLine, way_lines};
 use play_machine::{Begun, NotedRows, SeenLine, Watch};
 use std::alloc::{AllocError, Global};
+use turn_ends::question_row;
 
 /// Writes the entries of all texts that weren't said and of all rows that never applied, a line
 /// each.
@@ -151,7 +152,7 @@ impl Watch for ShownThings {
 
     #[tactic(auto, using(check_tables::proofs::Noting::more_marked))]
     fn start(&mut self, alloc: Global, begun: &Begun<'_>) -> Result<(), AllocError> {
-        let rows = [RuleRow::OfTable(Table::Questions, 1)];
+        let rows = [RuleRow::OfTable(Table::Questions, question_row(&Question::Welcome))];
         note_shown(alloc, begun.rules.cave, begun.parts, &rows, &mut self.marks)
     }
 

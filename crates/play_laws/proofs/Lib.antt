@@ -2,6 +2,7 @@ pub mod ApartEdits
 pub mod ApartLogs
 pub mod BytesLemmas
 pub mod ClassRows
+pub mod CommandLaws
 pub mod DifferenceLaws
 pub mod FaultLaws
 pub mod GuardLawLemmas

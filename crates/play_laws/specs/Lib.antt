@@ -1,5 +1,6 @@
 pub mod ApartEdits
 pub mod Bytes
+pub mod CommandLaws
 pub mod DrawsMade
 pub mod Held
 pub mod JoinedScripts

@@ -1,6 +1,6 @@
 //! Laws about the states that a session of a game holds, about faults and edits of any log, scripts
 //! of edits, their guards and what is printed of them, about ways that are never taken and classes
-//! that no score reaches, and about how many draws are counted.
+//! that no score reaches, about how many draws are counted, and about the words of a command line.
 #![tactic(auto)]
 
 ghost use Rattle.std.specs.Prelude.{◌<◌};
@@ -9,6 +9,7 @@ ghost use Rattle.turn_laws.specs.ObjectLaws.{IsInOnePlace};
 ghost use Rattle.turn_laws.specs.Reachable.{IsLawful, IsReachable};
 
 pub mod class_laws;
+pub mod command_laws;
 pub mod difference_laws;
 pub mod draw_laws;
 pub mod edit_laws;

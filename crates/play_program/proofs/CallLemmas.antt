@@ -2,8 +2,8 @@
 use Rattle.std.proofs.Common.{ap₂, Bool, ◌≡◌, ◌<◌, ◌+◌, ℕ, List, [], ◌∷◌, ◌++◌, None, Some, Option}
 use Rattle.std.proofs.Common.{drop, take, append-nil, append_assoc, ap, get_or, length, map, refl}
 use Rattle.std.proofs.Common.{subst, sym, ◌∙◌}
-use Rattle.play_program.specs.Sources.{Stops, Entry, is_first, IsStoppedAt, opening}
-use Rattle.std.specs.Prelude.{Contains, if◌then◌else◌, true}
+use Rattle.play_program.specs.Sources.{Stops, Entry, is_first, opening}
+use Rattle.std.specs.Prelude.{Contains, if◌then◌else◌, true, ◌⊎◌}
 use Rattle.std.proofs.lemmas.List.{drop_more, get_or-map, length-map, map-append, take-append-drop}
 use Rattle.std.proofs.lemmas.List.{take_more}
 use Rattle.std.proofs.lemmas.List.Concat.{flat_map-append}
@@ -12,7 +12,9 @@ use Rattle.play_command.specs.Asked.{named_file}
 use Rattle.play_command.specs.declared.line.Input.{Input}
 use Rattle.play_command.specs.declared.line.NamedFile.{NamedFile}
 use Rattle.play_command.specs.declared.line.What.{What}
-use Rattle.play_program.specs.Calls.{Call, Told, and_then}
+use Rattle.play_program.specs.Calls.{Call, Told, and_then, out_of_memory}
+use Rattle.play_program.specs.Calls.Told.{unopened}
+use Rattle.std.specs.declared.io.Error.{Error}
 use Rattle.play_program.specs.Files.{FileName}
 use Rattle.play_program.specs.Calls.Call.{Opens}
 
@@ -50,17 +52,16 @@ module _ (what : What) where
   -- one file can't be opened
   pub stopped-at : (file : FileName) (a c : Option (List Call)) (said : Told)
       → is_first what file.0 ≡ true → c ≡ and_then a (Opens file.1 ∷ [])
-      → IsStoppedAt what file said → Stops what (file ∷ []) a c said
+      → (said ≡ out_of_memory)
+      ⊎ ((is_first what file.0 ≡ true) × ((reason : Error) × (said ≡ unopened file.1 reason)))
+      → Stops what (file ∷ []) a c said
   stopped-at file a c said first calls stopped = (
     [],
     file,
     [],
-    record {
-      files_are = refl;
-      calls = calls ∙ ap (λ is. and_then a ((if is then Opens file.1 ∷ [] else []) ++ []))
-          (sym first);
-      stopped = stopped;
-    },
+    refl,
+    calls ∙ ap (λ is. and_then a ((if is then Opens file.1 ∷ [] else []) ++ [])) (sym first),
+    stopped,
   )
 
   -- some files were opened, and then others
@@ -77,18 +78,16 @@ module _ (what : What) where
   stops-within : (done files rest : List FileName) (a b c : Option (List Call)) (said : Told)
       → b ≡ and_then a (opening what done) → Stops what files b c said
       → Stops what (done ++ (files ++ rest)) a c said
-  stops-within done files rest a b c said first (before, last, after, stops) = (
+  stops-within done files rest a b c said first (before, last, after, files_are, calls, stopped) = (
     done ++ before,
     last,
     after ++ rest,
-    record {
-      files_are = ap (λ l. done ++ (l ++ rest)) stops.files_are
-          ∙ ap (λ l. done ++ l) (append_assoc before (last ∷ after) rest)
-          ∙ sym (append_assoc done before (last ∷ (after ++ rest)));
-      calls = opened-more done (before ++ last ∷ []) a b c first stops.calls
-          ∙ ap (λ l. and_then a (opening what l)) (sym (append_assoc done before (last ∷ [])));
-      stopped = stops.stopped;
-    },
+    ap (λ l. done ++ (l ++ rest)) files_are
+        ∙ ap (λ l. done ++ l) (append_assoc before (last ∷ after) rest)
+        ∙ sym (append_assoc done before (last ∷ (after ++ rest))),
+    opened-more done (before ++ last ∷ []) a b c first calls
+        ∙ ap (λ l. and_then a (opening what l)) (sym (append_assoc done before (last ∷ []))),
+    stopped,
   )
 
   module _ (files : List NamedFile) (place : ℕ) (d : NamedFile) (inside : place < length files)

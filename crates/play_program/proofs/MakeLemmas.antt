@@ -3,10 +3,9 @@ use Rattle.std.proofs.Common.{suc, ◌≡◌, ℕ, Bool, true, false, List, [], 
 use Rattle.std.proofs.Common.{Some, ap, option_map, Result, Ok, Err, length, refl, subst, sym, ◌∙◌}
 use Rattle.std.proofs.lemmas.List.{length-map}
 use Rattle.std.specs.List.{AllZip, flat_map}
-use Rattle.std.specs.Prelude.{⊤, IfOk, MatchResult, if◌then◌else◌, unwrap_or}
+use Rattle.std.specs.Prelude.{MatchResult, if◌then◌else◌, unwrap_or}
 use Rattle.cave_play.specs.Sources.{InputTexts, Says, AreHeld, Held, Leads}
 use Rattle.std.specs.Borrow.{Bor}
-use Rattle.cave_play.specs.declared.output.Reported.{Reported}
 use Rattle.cave_play.specs.declared.logs.LogsFault.{LogsFault}
 use Rattle.play_command.specs.declared.line.Input.TheVariants as input
 use Rattle.play_command.specs.declared.line.Request.{Request}
@@ -14,9 +13,10 @@ use Rattle.play_command.specs.declared.line.What.{What}
 use Rattle.play_command.specs.declared.line.What.TheVariants.{Check, Cover, Doubts, Edit, Map, Play}
 use Rattle.play_command.specs.declared.line.What.TheVariants.{Script}
 use Rattle.play_program.specs.Calls.{Call, and_then, Told}
-use Rattle.play_program.specs.Ends.{MakesOpened, held_by, ReadsFiles, made_with}
+use Rattle.play_program.specs.Ends.{MakesOpened, held_by, why_unmade}
+use Rattle.std.specs.Result.{result_map_both}
 use Rattle.play_program.specs.Files.{FileName, files_in, is_same_input, log_count}
-use Rattle.play_program.specs.Making.{HasReadAll, IsMadeBy, of_cover, of_map, third_of}
+use Rattle.play_program.specs.Making.{HasReadAll, IsMadeBy}
 use Rattle.play_program.specs.Sources.{entry_of, held_in, held_of, typed_text, Entry, ReadFile}
 use Rattle.play_program.specs.Sources.{ReadsOne, calls_for, entries_by, entries_in, of_input}
 use Rattle.play_program.specs.declared.make.Made.{Made}
@@ -24,26 +24,12 @@ use Rattle.play_program.specs.declared.sources.Files.{Files}
 use Rattle.std.specs.declared.io.Error.{Error}
 use Rattle.play_program.proofs.ReadLemmas.{Reads, reads_all}
 
--- ---- what is said of what was made
-
-pub any_ok : {A B : Type 0} (r : Result A B) → IfOk r (λ _. ⊤)
-any_ok (Ok made) = tt
-any_ok (Err found) = tt
-
-pub all_of_cover : (strict : Bool) (P : Type 0) (made : Result (Reported ℕ) LogsFault)
-    → IfOk made (λ _. P) → IfOk (of_cover strict made) (λ _. P)
-all_of_cover strict P (Ok made) is = is
-all_of_cover strict P (Err found) is = tt
-
-pub all_of_map : (P : Type 0) (made : Result (Reported (Unit {0})) LogsFault)
-    → IfOk made (λ _. P) → IfOk (of_map made) (λ _. P)
-all_of_map P (Ok made) is = is
-all_of_map P (Err found) is = tt
+-- ---- what was made
 
 -- what was made of inputs that have this
 abbrev pub IsJudged : What → Request → Held → Result Made LogsFault → Type 0
 IsJudged what request held made = (texts : InputTexts) × (logs : List (List ℕ))
-    × AreHeld (third_of what) held texts × AllZip Says held.logs logs
+    × AreHeld held texts × AllZip Says held.logs logs
     × IsMadeBy what request texts logs made
 
 -- the text of a name that may be missing
@@ -105,48 +91,40 @@ module _ {S F : Type 0} (calls_of : S → Option (List Call))
   held_is = ap (held_of (typed_text files.request.now)) waiting
       ∙ ap (λ (r : Request). held_of (typed_text r) (entries_by known request)) asked
 
-  read_files : (called : Option (List Call)) → called ≡ calls_of new.system.now
-      → (made : Result Made Told)
-      → MatchResult made (λ _. HasReadAll request.what (held_in bytes_of left new).logs)
+  all_left : (r : Result Made Told)
+      → MatchResult r (λ _. HasReadAll request.what (held_in bytes_of left new).logs)
       (λ _. Unit {0})
-      → ReadsFiles known request before called made reads.0
-      (λ from. of_input from (entries_in bytes_of left new))
-  read_files called same made all =
-      let are = reads.1 in
-      record {
-        called_are = same ∙ are.called
-            ∙ ap (λ (r : Request). and_then (calls_of files.system.now)
-            (flat_map (calls_for r) reads.0)) asked
-            ∙ ap (λ k. and_then k (flat_map (calls_for request) reads.0)) calls;
-        texts = are.texts;
-        first = λ from. ap (of_input from) (sym waiting) ∙ are.first from;
-        all = all_left made all;
-      }
-    where
-      all_left : (r : Result Made Told)
-          → MatchResult r (λ _. HasReadAll request.what (held_in bytes_of left new).logs)
-          (λ _. Unit {0})
-          → MatchResult r (λ _. HasReadAll request.what
-          (of_input input.Log (entries_in bytes_of left new))) (λ _. Unit {0})
-      all_left (Ok some) all = none_left request.what _ all
-      all_left (Err said) all = tt
+      → MatchResult r (λ _. HasReadAll request.what
+      (of_input input.Log (entries_in bytes_of left new))) (λ _. Unit {0})
+  all_left (Ok some) all = none_left request.what _ all
+  all_left (Err said) all = tt
 
   -- from the bytes of files that are open this was made
   pub MakesOpened-made : (called : Option (List Call)) → called ≡ calls_of new.system.now
       → (found : Result Made LogsFault) (reason : Option Error) (made : Result Made Told)
-      → made ≡ made_with request found reason
+      → made ≡ result_map_both (λ is. is) (λ fault. why_unmade request fault reason) found
       → MatchResult made (λ _. HasReadAll request.what (held_in bytes_of left new).logs)
       (λ _. Unit {0})
       → IsJudged request.what request (held_in bytes_of left files) found
       → MakesOpened known request before called made
   MakesOpened-made called same found reason made is all (texts, logs, held, said, judged) = (
-    (reads.0, (λ from. of_input from (entries_in bytes_of left new)), read_files called same made all),
+    (
+      reads.0,
+      (λ from. of_input from (entries_in bytes_of left new)),
+      same ∙ reads.1.called
+          ∙ ap (λ (r : Request). and_then (calls_of files.system.now)
+          (flat_map (calls_for r) reads.0)) asked
+          ∙ ap (λ k. and_then k (flat_map (calls_for request) reads.0)) calls,
+      reads.1.texts,
+      (λ from. ap (of_input from) (sym waiting) ∙ reads.1.first from),
+      all_left made all,
+    ),
     (
       found,
       reason,
       texts,
       logs,
-      subst (λ h. AreHeld (third_of request.what) h texts) held_is held,
+      subst (λ h. AreHeld h texts) held_is held,
       subst (λ (h : Held). AllZip Says h.logs logs) held_is said,
       judged,
       is,

@@ -1,7 +1,8 @@
 -- What the program asks of its system, what it says, and with which status it ends.
 use Rattle.std.specs.Prelude.{◌≡◌, ℕ, Bool, true, false, List, [], ◌∷◌, ◌++◌, Option, None, Some}
-use Rattle.std.specs.Prelude.{⊤, Result, Ok, Err, if◌then◌else◌, option_map}
+use Rattle.std.specs.Prelude.{⊤, Result, if◌then◌else◌, option_map}
 use Rattle.std.specs.IoError.{error_kind}
+use Rattle.std.specs.Result.{result_map_both}
 use Rattle.std.specs.declared.io.Error.{Error}
 use Rattle.std.specs.declared.io.ErrorKind.{ErrorKind}
 use Rattle.cave_play.specs.Fault.{status_of}
@@ -40,8 +41,7 @@ told_of (Message.Reseeded seed) = reseeded seed
 
 -- what a message reports of what wasn't done
 abbrev pub told_by : {A : Type 0} → Result A Message → Result A Told
-told_by (Ok done) = Ok done
-told_by (Err failure) = Err (told_of failure)
+told_by done = result_map_both (λ is. is) told_of done
 
 abbrev pub out_of_memory : Told
 out_of_memory = faulty PlayFault.Memory None
@@ -61,6 +61,10 @@ abbrev pub is_closed_pipe : ErrorKind → Bool
 is_closed_pipe ErrorKind.BrokenPipe = true
 is_closed_pipe _ = false
 
+abbrev pub is_no_memory : ErrorKind → Bool
+is_no_memory ErrorKind.OutOfMemory = true
+is_no_memory _ = false
+
 -- nothing is said about an output that nobody reads any more
 abbrev pub is_silent : Told → Bool
 is_silent (unprinted reason) = is_closed_pipe (error_kind reason)
@@ -68,10 +72,11 @@ is_silent _ = false
 
 -- ---- what is asked
 
--- one call of the system: a file is opened, bytes are put into a file, or something is reported
+-- one call of the system: a file is opened; bytes are put into a file, or aren't, for this reason;
+-- or something is reported
 pub data Call : Type 0 where
   Opens : List ℕ → Call
-  Puts : List ℕ → List ℕ → Call
+  Puts : List ℕ → List ℕ → Option Error → Call
   Tells : Told → Call
 
 -- the known calls, followed by these

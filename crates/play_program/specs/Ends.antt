@@ -4,7 +4,10 @@ use Rattle.std.specs.Prelude.{◌≡◌, ◌<◌, ◌⊎◌, ◌==◌, ◌&&◌,
 use Rattle.std.specs.Prelude.{◌++◌, length, map, take, All, Option, None, Some, IfSome, Result, Ok}
 use Rattle.std.specs.Prelude.{Err, MatchResult, if◌then◌else◌}
 use Rattle.std.specs.Io.KnownBytes.{Appends}
+use Rattle.std.specs.IoError.{error_kind}
 use Rattle.std.specs.List.{AllZip, flat_map}
+use Rattle.std.specs.Option.{option_map_or}
+use Rattle.std.specs.Result.{result_map_both}
 use Rattle.std.specs.declared.io.Error.{Error}
 use Rattle.cave_play.specs.Fault.{input_of}
 use Rattle.cave_play.specs.Sources.{InputTexts, Says, AreHeld, Held}
@@ -14,19 +17,19 @@ use Rattle.play_command.specs.declared.line.EditAsked.{EditAsked}
 use Rattle.play_command.specs.declared.views.EditView.{EditView}
 use Rattle.play_command.specs.declared.line.Input.{Input}
 use Rattle.play_command.specs.declared.line.Line.{Line}
-use Rattle.cave_play.specs.declared.logs.LogsFault.{LogsFault}
-use Rattle.cave_play.specs.declared.fault.PlayFault.{PlayFault}
 use Rattle.play_command.specs.declared.line.Request.{Request}
 use Rattle.play_command.specs.declared.line.What.{What}
+use Rattle.cave_play.specs.declared.logs.LogsFault.{LogsFault}
+use Rattle.cave_play.specs.declared.fault.PlayFault.{PlayFault}
 use Rattle.play_command.specs.Line.{IsAnswer, refusal_text, status_of_command}
 use Rattle.play_edits.specs.declared.refusal.Refusal.{Refusal}
-use Rattle.play_program.specs.Calls.{Call, EndsTold, Told, and_then, out_of_memory}
+use Rattle.play_program.specs.Calls.{Call, EndsTold, Told, and_then, is_no_memory, out_of_memory}
 use Rattle.play_program.specs.Calls.Call.{Puts, Tells}
 use Rattle.play_program.specs.Calls.Told.{faulty, misused, reseeded, unopened, unprinted, unread}
 use Rattle.play_program.specs.Calls.Told.{unwritten}
-use Rattle.play_program.specs.Files.{output_of, AreApart, IsClash, fault_told, file_of_input}
+use Rattle.play_program.specs.Files.{output_of, IsApart, IsClash, fault_told, file_of_input}
 use Rattle.play_program.specs.Files.{files_in}
-use Rattle.play_program.specs.Making.{HasReadAll, IsMadeBy, third_of}
+use Rattle.play_program.specs.Making.{HasReadAll, IsMadeBy}
 use Rattle.play_program.specs.Sources.{Entry, ReadFile, Stops, calls_for, entries_by, held_of}
 use Rattle.play_program.specs.Sources.{of_input, opening, typed_text}
 use Rattle.play_program.specs.declared.make.Made.{Made}
@@ -46,31 +49,21 @@ abbrev pub why_unmade : Request → LogsFault → Option Error → Told
 why_unmade request found reason =
     unmade_told (file_of_input request (input_of found.fault) found.log) found.fault reason
 
-abbrev pub made_with : Request → Result Made LogsFault → Option Error → Result Made Told
-made_with request (Ok made) reason = Ok made
-made_with request (Err found) reason = Err (why_unmade request found reason)
-
--- these files were read: of each input the first ones, and of several logs all, if something was
--- made
-pub record ReadsFiles (bytes_of : List ℕ → Option (List ℕ)) (request : Request)
-    (calls called : Option (List Call)) (made : Result Made Told) (read : List ReadFile)
-    (left : Input → List Entry) : Type 0 where
-  pub called_are : called ≡ and_then calls (flat_map (calls_for request) read)
-  pub texts : All (λ file. Says file.entry.known file.text) read
-  pub first : (from : Input) → of_input from (entries_by bytes_of request)
-      ≡ of_input from (map (λ file. file.entry) read) ++ left from
-  pub all : MatchResult made (λ _. HasReadAll request.what (left Input.Log)) (λ _. Unit {0})
-
--- from the bytes of files that are open this was made
+-- from the bytes of files that are open this was made; these were read, of each input the first
+-- ones, and of several logs all, if something was made
 abbrev pub MakesOpened : (List ℕ → Option (List ℕ)) → Request → Option (List Call)
     → Option (List Call) → Result Made Told → Type 0
 MakesOpened bytes_of request calls called made =
     ((read : List ReadFile) × (left : Input → List Entry)
-    × ReadsFiles bytes_of request calls called made read left)
+    × (called ≡ and_then calls (flat_map (calls_for request) read))
+    × All (λ file. Says file.entry.known file.text) read
+    × ((from : Input) → of_input from (entries_by bytes_of request)
+    ≡ of_input from (map (λ file. file.entry) read) ++ left from)
+    × MatchResult made (λ _. HasReadAll request.what (left Input.Log)) (λ _. Unit {0}))
     × ((found : Result Made LogsFault) × (reason : Option Error) × (texts : InputTexts)
-    × (each : List (List ℕ)) × AreHeld (third_of request.what) (held_by bytes_of request) texts
+    × (each : List (List ℕ)) × AreHeld (held_by bytes_of request) texts
     × AllZip Says (held_by bytes_of request).logs each × IsMadeBy request.what request texts each found
-    × (made ≡ made_with request found reason))
+    × (made ≡ result_map_both (λ is. is) (λ fault. why_unmade request fault reason) found))
 
 -- or one of them couldn't be opened
 abbrev pub MakesOf : (List ℕ → Option (List ℕ)) → Request → Option (List Call)
@@ -85,8 +78,7 @@ MakesOf bytes_of request calls called made =
 
 -- the report that a run has made, if it was asked for one
 abbrev pub report_in : Option EditRun → List ℕ
-report_in None = []
-report_in (Some run) = run.report.items
+report_in edits = option_map_or (λ run. run.report.items) edits []
 
 -- a text was printed; or a part of it was, and no more could be, unless there is no text
 abbrev pub Prints : List ℕ → Option (List ℕ) → Option (List ℕ) → Result (Unit {0}) Told → Type 0
@@ -94,9 +86,17 @@ Prints text old new ended = MatchResult ended (λ _. Appends old new text)
     (λ said. (said ≡ faulty PlayFault.Write None) × (0 < length text)
     × ((n : ℕ) × Appends old new (take n text)))
 
--- the file can't be written, or memory ran out
-abbrev pub IsUnput : List ℕ → Told → Type 0
-IsUnput file said = (said ≡ out_of_memory) ⊎ ((reason : Error) × (said ≡ unwritten file reason))
+-- why bytes aren't in a file, if they aren't
+abbrev pub put_told : List ℕ → Option Error → Result (Unit {0}) Told
+put_told file None = Ok tt
+put_told file (Some reason) =
+    Err (if is_no_memory (error_kind reason) then out_of_memory else unwritten file reason)
+
+-- bytes were put into a file; if the system says that they couldn't be, that is the end
+abbrev pub IsPut : List ℕ → List ℕ → Option (List Call) → Option (List Call)
+    → Result (Unit {0}) Told → Type 0
+IsPut file bytes calls called ended = (failed : Option Error)
+    × (called ≡ and_then calls (Puts file bytes failed ∷ [])) × (ended ≡ put_told file failed)
 
 -- what comes once this is done; if it isn't, why it isn't is said, and all else is as before
 abbrev pub OnceDone : {A B : Type 0} → Result A Told → Result B Told → Type 0 → (A → Type 0) → Type 0
@@ -110,8 +110,7 @@ abbrev pub Delivers : Option (List ℕ) → Made → Option (List Call) → Opti
 Delivers (Some file) made calls called old new ended =
     (printed : Result (Unit {0}) Told) × Prints (report_in made.edits) old new printed
     × OnceDone printed ended (called ≡ calls)
-    (λ _. (called ≡ and_then calls (Puts file made.output.items ∷ []))
-    × MatchResult ended (λ _. Unit {0}) (IsUnput file))
+    (λ _. IsPut file made.output.items calls called ended)
 Delivers None made calls called old new ended =
     (called ≡ calls)
     × ((mid : Option (List ℕ)) × (printed : Result (Unit {0}) Told)
@@ -120,24 +119,21 @@ Delivers None made calls called old new ended =
 
 -- ---- how the run ends
 
--- a run that delivered what it made fails if something is left, since it is strict
-abbrev pub with_left : Request → Option PlayFault → Option EditRun → Result (Option EditRun) Told
-with_left request None edits = Ok edits
-with_left request (Some found) edits = Err (fault_told request found None)
-
--- the output goes over no file that is read, or over one that it may replace, and the run was done;
--- or nothing was
+-- the output goes over no file that is read, or over one that it may replace, and the run was done,
+-- which fails if something is left, since it is strict; or nothing was done
 abbrev pub RunsApart : (List ℕ → List ℕ → Option Bool) → (List ℕ → Option (List ℕ)) → Request
     → Option (List Call) → Option (List Call) → Option (List ℕ) → Option (List ℕ)
     → Result (Option EditRun) Told → Type 0
 RunsApart one_file bytes_of request calls called old new ended =
-    (AreApart one_file request.what (output_of request) (files_in request)
+    (IfSome (output_of request)
+    (λ output. All (IsApart one_file request.what output) (files_in request))
     × ((ran : Option (List Call)) × (found : Result Made Told)
     × MakesOf bytes_of request calls ran found
     × OnceDone found ended ((called ≡ ran) × (new ≡ old))
     (λ made. (delivered : Result (Unit {0}) Told)
     × Delivers (output_of request) made ran called old new delivered
-    × OnceDone delivered ended (Unit {0}) (λ _. ended ≡ with_left request made.left made.edits))))
+    × OnceDone delivered ended (Unit {0}) (λ _. ended ≡ option_map_or
+    (λ found. Err (fault_told request found None)) made.left (Ok made.edits)))))
     ⊎ ((said : Told) × (ended ≡ Err said)
     × IsClash one_file request.what (output_of request) (files_in request) said
     × (called ≡ calls) × (new ≡ old))
@@ -170,8 +166,7 @@ notices_by _ request run = []
 
 -- what is reported of a run that ended well
 abbrev pub notices : Request → Option EditRun → List Call
-notices request None = []
-notices request (Some run) = notices_by request.what request run
+notices request edits = option_map_or (notices_by request.what request) edits []
 
 -- what is said, with the reason that the writer of the output gave, if that is what failed
 abbrev pub with_reason : Told → Option Error → Told

@@ -1,15 +1,15 @@
 -- The files that a request names, and over which of them its output may go.
 use Rattle.std.specs.Prelude.{◌≡◌, ◌⊎◌, ℕ, ◌-◌, ◌==◌, Bool, true, false, List, [], ◌∷◌, length, map}
-use Rattle.std.specs.Prelude.{All, Contains, IfSome, codes, Option, None, Some, if◌then◌else◌}
+use Rattle.std.specs.Prelude.{Contains, IfSome, codes, Option, None, Some, if◌then◌else◌}
 use Rattle.std.specs.Prelude.{option_and_then, option_map, unwrap_or}
 use Rattle.std.specs.List.{filter}
 use Rattle.std.specs.Option.{option_or}
 use Rattle.cave_play.specs.Fault.{input_of}
 use Rattle.play_command.specs.declared.views.EditView.{EditView}
 use Rattle.play_command.specs.declared.line.Input.{Input}
-use Rattle.cave_play.specs.declared.fault.PlayFault.{PlayFault}
 use Rattle.play_command.specs.declared.line.Request.{Request}
 use Rattle.play_command.specs.declared.line.What.{What}
+use Rattle.cave_play.specs.declared.fault.PlayFault.{PlayFault}
 use Rattle.play_command.specs.Asked.{named_file}
 use Rattle.play_command.specs.contracts.line.InputPartialEq.TheImpl as input_eq
 use Rattle.play_program.specs.Calls.{Told, out_of_memory}
@@ -80,12 +80,6 @@ view_over _ _ = None
 abbrev pub IsApart : (List ℕ → List ℕ → Option Bool) → What → List ℕ → FileName → Type 0
 IsApart one_file what output file =
     MayReplace what file.0 ⊎ IfSome (one_file output file.1) (λ same. false ≡ same)
-
--- it goes over none of them that it may not go over
-abbrev pub AreApart : (List ℕ → List ℕ → Option Bool) → What → Option (List ℕ) → List FileName
-    → Type 0
-AreApart one_file what None files = Unit {0}
-AreApart one_file what (Some output) files = All (IsApart one_file what output) files
 
 -- it would go over one of them, which is said, with the view that may, if there is one; or memory
 -- ran out

@@ -56,19 +56,16 @@ other_said request seed head =
     (value_of (codes "--seed") (codes "-s") head)))
 
 -- the seed with which a request plays its logs, if it plays some and isn't quiet
-abbrev pub seed_by : What → Bool → Option ℕ
-seed_by (What.Edit asked) quiet = if quiet then None else Some asked.editing.seed
-seed_by (What.Play seed view) quiet = Some seed
-seed_by (What.Cover seed view strict) quiet = Some seed
-seed_by (What.Map seed part) quiet = Some seed
-seed_by _ quiet = None
-
-abbrev pub seed_asked : Request → Option ℕ
-seed_asked request = seed_by request.what request.quiet
+abbrev pub seed_asked : What → Bool → Option ℕ
+seed_asked (What.Edit asked) quiet = if quiet then None else Some asked.editing.seed
+seed_asked (What.Play seed view) quiet = Some seed
+seed_asked (What.Cover seed view strict) quiet = Some seed
+seed_asked (What.Map seed part) quiet = Some seed
+seed_asked _ quiet = None
 
 -- what the head of a log says differently from a request, if it does; its words are its runs of
 -- nonblanks
 unfoldable pub head_notice : Request → List ℕ → Option Said
 head_notice request log =
     option_and_then (λ seed. option_and_then (λ head. other_said request seed (fields head))
-    (head_of log)) (seed_asked request)
+    (head_of log)) (seed_asked request.what request.quiet)

@@ -31,21 +31,14 @@ abbrev pub opening : What → List FileName → List Call
 opening what files =
     flat_map (λ file. if is_first what file.0 then Opens file.1 ∷ [] else []) files
 
--- this file can't be opened, or memory ran out there
-abbrev pub IsStoppedAt : What → FileName → Told → Type 0
-IsStoppedAt what file said = (said ≡ out_of_memory)
-    ⊎ ((is_first what file.0 ≡ true) × ((reason : Error) × (said ≡ unopened file.1 reason)))
-
--- the files up to this one were opened, and it is why the run wasn't done
-pub record StopsAt (what : What) (files : List FileName) (old new : Option (List Call)) (said : Told)
-    (before : List FileName) (last : FileName) (after : List FileName) : Type 0 where
-  pub files_are : files ≡ before ++ last ∷ after
-  pub calls : new ≡ and_then old (opening what (before ++ last ∷ []))
-  pub stopped : IsStoppedAt what last said
-
+-- the files up to this one were opened, and it can't be opened, or memory ran out there
 abbrev pub Stops : What → List FileName → Option (List Call) → Option (List Call) → Told → Type 0
-Stops what files old new said = (before : List FileName) × (last : FileName)
-    × (after : List FileName) × StopsAt what files old new said before last after
+Stops what files old new said =
+    (before : List FileName) × (last : FileName) × (after : List FileName)
+    × (files ≡ before ++ last ∷ after)
+    × (new ≡ and_then old (opening what (before ++ last ∷ [])))
+    × ((said ≡ out_of_memory)
+    ⊎ ((is_first what last.0 ≡ true) × ((reason : Error) × (said ≡ unopened last.1 reason))))
 
 -- the files were opened in their order: all of them, or none after one that couldn't be opened
 abbrev pub Opened : {X : Type 0} → What → List FileName → Option (List Call) → Option (List Call)

@@ -1,9 +1,9 @@
 //! The files of a run, and over which of them its output may go.
 
-ghost use Rattle.std.specs.Prelude.{◌≡◌, ◌↔◌, IsTrue, MatchResult, map, option_map};
+ghost use Rattle.std.specs.Prelude.{◌≡◌, ◌↔◌, All, IfSome, IsTrue, MatchResult, map, option_map};
 ghost use Rattle.play_command.specs.Asked.{named_file};
 ghost use Rattle.play_program.specs.Calls.{told_by};
-ghost use Rattle.play_program.specs.Files.{AreApart, IsClash, MayReplace, file_of, files_in};
+ghost use Rattle.play_program.specs.Files.{IsApart, IsClash, MayReplace, file_of, files_in};
 ghost use Rattle.play_program.specs.Files.{log_count, name_at, output_of, view_over};
 
 use crate::message::Message;
@@ -84,8 +84,8 @@ pub(crate) fn check_output<'a, S: System>(
     request: &Request<'a>,
 ) -> Result<(), Message<'a>>
     ensures { MatchResult (told_by result)
-        (λ _. AreApart (S.one_file system.now) request.now.what (output_of request.now)
-        (files_in request.now))
+        (λ _. IfSome (output_of request.now) (λ output.
+        All (IsApart (S.one_file system.now) request.now.what output) (files_in request.now)))
         (IsClash (S.one_file system.now) request.now.what (output_of request.now)
         (files_in request.now)) }
 {

@@ -21,7 +21,7 @@ pub struct HeadSaid<'a> {
 
 /// The seed with which a request plays its logs, if it plays some and isn't quiet.
 fn seed_asked(request: &Request<'_>) -> Option<u32>
-    ensures { result ≡ seed_asked request.now }
+    ensures { result ≡ seed_asked request.now.what request.now.quiet }
 {
     match request.what {
         What::Edit(asked) if !request.quiet => Some(asked.editing.seed),

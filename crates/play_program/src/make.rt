@@ -5,8 +5,7 @@ ghost use Rattle.std.specs.List.{AllZip};
 ghost use Rattle.cave_play.specs.Sources.{InputTexts, Says, AreHeld, Leads};
 ghost use Rattle.play_command.specs.Asked.{named_file};
 ghost use Rattle.play_program.specs.Files.{log_count};
-ghost use Rattle.play_program.specs.Making.{AreListed, HasReadAll, IsMadeBy, made_of};
-ghost use Rattle.play_program.specs.Making.{of_cover, of_doubts, of_edits, of_map, of_text, third_of};
+ghost use Rattle.play_program.specs.Making.{AreListed, HasReadAll, IsMadeBy};
 
 use crate::files::{file_of, log_count};
 use cave_play::inputs::Sources;
@@ -14,7 +13,7 @@ use cave_play::output::Reported;
 use cave_play::run::{first_doubt, make_check, make_doubts, make_edit, make_play};
 use cave_play::two_logs::{make_edit_to, make_script};
 use cave_play::{LogsFault, PlayFault};
-use check_doubts::{Doubt, DoubtFiles};
+use check_doubts::DoubtFiles;
 use play_command::{EditsFrom, Input, Request, What};
 use play_cover::run::{CoverAsked, make_cover};
 use play_edits::EditRun;
@@ -34,7 +33,7 @@ pub(crate) struct Made {
 impl Made {
     /// A text, with what edits return, and what is left.
     fn of(output: Vec<u8>, edits: Option<EditRun>, left: Option<PlayFault>) -> Made
-        ensures { result ≡ made_of output edits left }
+        ensures { result ≡ record { output = output; edits = edits; left = left } }
     {
         Made {
             output,
@@ -42,45 +41,6 @@ impl Made {
             left,
         }
     }
-}
-
-fn of_text(made: Result<Reported<()>, PlayFault>) -> Result<Made, LogsFault>
-    ensures { result ≡ of_text made }
-{
-    Ok(Made::of(made?.text, None, None))
-}
-
-fn of_doubts(strict: bool, made: Result<Reported<Vec<Doubt>>, PlayFault>) -> Result<Made, LogsFault>
-    ensures { result ≡ of_doubts strict made }
-{
-    let Reported { text, found } = made?;
-    Ok(Made::of(text, None, first_doubt(strict, &found)))
-}
-
-fn of_edits(made: Result<Reported<EditRun>, PlayFault>) -> Result<Made, LogsFault>
-    ensures { result ≡ of_edits made }
-{
-    let Reported { text, found } = made?;
-    Ok(Made::of(text, Some(found), None))
-}
-
-fn of_cover(strict: bool, made: Result<Reported<usize>, LogsFault>) -> Result<Made, LogsFault>
-    ensures { result ≡ of_cover strict made }
-{
-    let Reported { text, found } = made?;
-    let is_left = strict && found > 0;
-    let left = if is_left {
-        Some(PlayFault::Unshown(found))
-    } else {
-        None
-    };
-    Ok(Made::of(text, None, left))
-}
-
-fn of_map(made: Result<Reported<()>, LogsFault>) -> Result<Made, LogsFault>
-    ensures { result ≡ of_map made }
-{
-    Ok(Made::of(made?.text, None, None))
 }
 
 /// The files that doubts are about, and that of the list of known ones.
@@ -103,7 +63,7 @@ pub(crate) fn make<I: Sources>(
     requires { log_count (map named_file request.now.files.items)
         ≡ length (I.held inputs.old).logs }
     ensures judged { (texts : InputTexts) × (logs : List (List ℕ))
-        × AreHeld (third_of request.now.what) (I.held inputs.old) texts
+        × AreHeld (I.held inputs.old) texts
         × AllZip Says (I.held inputs.old).logs logs
         × IsMadeBy request.now.what request.now texts logs result }
     ensures all { IfOk result (λ _. HasReadAll request.now.what (I.held inputs.new).logs) }
@@ -111,22 +71,35 @@ pub(crate) fn make<I: Sources>(
 {
     let logs = log_count(&request.files);
     match request.what {
-        What::Check(view) => of_text(make_check(alloc, inputs, view)),
+        What::Check(view) => Ok(Made::of(make_check(alloc, inputs, view)?.text, None, None)),
         What::Doubts { strict } => {
             let files = doubt_files(request);
-            of_doubts(strict, make_doubts(alloc, inputs, &files))
+            let Reported { text, found } = make_doubts(alloc, inputs, &files)?;
+            Ok(Made::of(text, None, first_doubt(strict, &found)))
         }
-        What::Play { seed, view } => of_text(make_play(alloc, inputs, seed, view)),
+        What::Play { seed, view } => {
+            Ok(Made::of(make_play(alloc, inputs, seed, view)?.text, None, None))
+        }
         What::Edit(asked) => match asked.edits_from {
-            EditsFrom::Script => of_edits(make_edit(alloc, inputs, asked.editing, asked.report)),
-            EditsFrom::NewLog => of_edits(make_edit_to(alloc, inputs, asked.editing, asked.report)),
+            EditsFrom::Script => {
+                let edited = make_edit(alloc, inputs, asked.editing, asked.report)?;
+                Ok(Made::of(edited.text, Some(edited.found), None))
+            }
+            EditsFrom::NewLog => {
+                let edited = make_edit_to(alloc, inputs, asked.editing, asked.report)?;
+                Ok(Made::of(edited.text, Some(edited.found), None))
+            }
         },
-        What::Script(form) => of_text(make_script(alloc, inputs, form)),
+        What::Script(form) => Ok(Made::of(make_script(alloc, inputs, form)?.text, None, None)),
         What::Cover { seed, view, strict } => {
             let known = file_of(request, Input::Known, 0).unwrap_or("");
             let asked = CoverAsked { seed, view, known };
-            of_cover(strict, make_cover(alloc, inputs, logs, &asked))
+            let Reported { text, found } = make_cover(alloc, inputs, logs, &asked)?;
+            let left = (strict && found > 0).then_some(PlayFault::Unshown(found));
+            Ok(Made::of(text, None, left))
         }
-        What::Map { seed, part } => of_map(make_map(alloc, inputs, logs, seed, part)),
+        What::Map { seed, part } => {
+            Ok(Made::of(make_map(alloc, inputs, logs, seed, part)?.text, None, None))
+        }
     }
 }

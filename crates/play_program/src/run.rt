@@ -1,9 +1,8 @@
 //! The run of a request: what it makes of its files, where that goes, and what is said beside it.
 
-ghost use Rattle.std.specs.Prelude.{◌≡◌, [], ◌∷◌, IfErr, option_map};
+ghost use Rattle.std.specs.Prelude.{◌≡◌, option_map};
 ghost use Rattle.play_program.specs.Calls.{EndsTold, and_then, told_by, told_of};
-ghost use Rattle.play_program.specs.Calls.Call.{Puts};
-ghost use Rattle.play_program.specs.Ends.{Delivers, EndsRun, IsUnput, MakesOf, Prints, RunsApart};
+ghost use Rattle.play_program.specs.Ends.{Delivers, EndsRun, IsPut, MakesOf, Prints, RunsApart};
 ghost use Rattle.play_program.specs.Ends.{notices, refusal_notices, report_in, why_unmade};
 ghost use Rattle.play_program.specs.Ends.{with_reason};
 
@@ -81,9 +80,7 @@ fn print<'a, W: Write>(output: &mut W, text: &[u8]) -> Result<(), Message<'a>>
 
 /// Puts a whole output into a file.
 fn put<'a, S: System>(system: &mut S, file: &'a str, output: &[u8]) -> Result<(), Message<'a>>
-    ensures call { S.calls system.new
-        ≡ and_then (S.calls system.old) (Puts file.now output.now ∷ []) }
-    ensures failed { IfErr (told_by result) (IsUnput file.now) }
+    ensures { IsPut file.now output.now (S.calls system.old) (S.calls system.new) (told_by result) }
 {
     match system.put(file, output) {
         Ok(()) => Ok(()),
@@ -203,6 +200,6 @@ pub fn run<S: System, W: Write>(
             tell_notices(system, request, &edits);
             DONE
         }
-        Err(message) => end_with(system, with_reason(message, output.reason)),
+        Err(message) => end_with(system, with_reason(message, output.reason())),
     }
 }

@@ -2,6 +2,7 @@
 
 ghost use Rattle.std.specs.Prelude.{◌≡◌, ◌≢◌, ℕ, Bool, true, List, [], ◌∷◌, Option, Some, IfOk};
 ghost use Rattle.std.specs.Prelude.{IfSome, OnErr, OnOk};
+ghost use Rattle.std.specs.Result.{result_err};
 ghost use Rattle.play_program.specs.Calls.{Becomes, Call, and_then, told_of};
 ghost use Rattle.play_program.specs.Calls.Call.{Opens, Puts, Tells};
 
@@ -38,7 +39,8 @@ pub trait System {
 
     /// Puts bytes into the file of a name, all of them or none.
     fn put(&mut self, file: &str, bytes: &[u8]) -> io::Result<()>
-        ensures call { calls self.new ≡ and_then (calls self.old) (Puts file.now bytes.now ∷ []) }
+        ensures call { calls self.new
+            ≡ and_then (calls self.old) (Puts file.now bytes.now (result_err result) ∷ []) }
         ensures put { OnOk result (IfSome (bytes_of self.new file.now) (λ put. put ≡ bytes.now)) }
         ensures others { (name : List ℕ) → name ≢ file.now
             → one_file self.old file.now name ≢ Some true

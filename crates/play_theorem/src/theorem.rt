@@ -13,7 +13,8 @@ use std::alloc::Global;
 use std::io::{Read, Write};
 
 /// Edits a log by a script, and writes a report on each item and then the transcript of the edited
-/// log, as `cave edit` does. Returns how many lines were played for the items, among others. A run that fails has written nothing, unless its writer failed.
+/// log, as `cave edit` does. Returns how many lines were played for the items, among others. A run
+/// that fails has written nothing, unless its writer failed.
 pub fn edit_log<C: Read, B: Read, L: Read, S: Read, W: Write>(
     alloc: Global,
     inputs: &mut Inputs<C, B, L, S>,

@@ -25,7 +25,7 @@ told_by (KeptMessage.Reseeded seed) = reseeded seed
 -- which call was kept
 abbrev pub call_by : KeptCall → Call
 call_by (KeptCall.Opens file) = Opens (string_bytes file)
-call_by (KeptCall.Puts file bytes) = Puts (string_bytes file) bytes.items
+call_by (KeptCall.Puts file bytes failed) = Puts (string_bytes file) bytes.items failed
 call_by (KeptCall.Tells message) = Tells (told_by message)
 
 -- the calls that were kept, in order

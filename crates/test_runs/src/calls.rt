@@ -27,7 +27,8 @@ pub enum KeptMessage {
 #[derive(Drop)]
 pub enum KeptCall {
     Opens(String),
-    Puts(String, Vec<u8>),
+    /// Bytes for a file, and the reason, if they couldn't be put there.
+    Puts(String, Vec<u8>, Option<io::Error>),
     Tells(KeptMessage),
 }
 

@@ -92,13 +92,14 @@ impl<R: Abort> System for MemorySystem<'_, R> {
     fn put(&mut self, file: &str, bytes: &[u8]) -> io::Result<()> {
         let name = String::from_str(self.alloc, file).expect(self.rt, "memory for a call");
         let copy = Vec::from_slice(self.alloc, bytes).expect(self.rt, "memory for a call");
-        self.kept
-            .push(KeptCall::Puts(name, copy))
-            .expect(self.rt, "memory for a call");
-        match MemoryFile::named(file) {
+        let put = match MemoryFile::named(file) {
             Some(MemoryFile::Log) => replace(&mut self.log, bytes),
             _ => Err(io::Error::from(ErrorKind::PermissionDenied)),
-        }
+        };
+        self.kept
+            .push(KeptCall::Puts(name, copy, put.err()))
+            .expect(self.rt, "memory for a call");
+        put
     }
 
     fn tell(&mut self, message: Message<'_>) {

@@ -88,7 +88,9 @@ fn opens(call: Option<&KeptCall>, name: &str) -> bool {
 /// Whether a call puts these bytes into the log.
 fn puts_log(call: Option<&KeptCall>, bytes: &[u8]) -> bool {
     match call {
-        Some(KeptCall::Puts(file, given)) => file.as_str() == "log" && given.as_slice() == bytes,
+        Some(KeptCall::Puts(file, given, None)) => {
+            file.as_str() == "log" && given.as_slice() == bytes
+        }
         _ => false,
     }
 }

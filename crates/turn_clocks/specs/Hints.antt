@@ -118,8 +118,8 @@ unfoldable pub guard_rows : List (Row ℕ (Unit {0}))
 guard_rows =
     plain_row (hint_is GRATE_HINT ∷ prop (the name.Grate) GRATE_LOCKED
     ∷ no (near (the name.Keys)) ∷ []) offer
-    ∷ plain_row (hint_is BIRD_HINT ∷ near (the name.Bird) ∷ carried (the name.Rod)
-    ∷ last_object name.Bird ∷ []) offer
+    ∷ plain_row (hint_is BIRD_HINT ∷ near (the name.Bird) ∷ last_object name.Bird
+    ∷ carried (the name.Rod) ∷ []) offer
     ∷ plain_row (hint_is SNAKE_HINT ∷ near (the name.Snake) ∷ no (near (the name.Bird)) ∷ []) offer
     ∷ plain_row (hint_is MAZE_HINT ∷ nothing_at here ∷ nothing_at old ∷ nothing_at older
     ∷ two_in_hands ∷ []) offer

@@ -187,8 +187,8 @@ fn offer_by_guard<N: RowNotes>(rules: &Rules<'_>, number: HintNumber, scene: &mu
             && !is_near(rules, scene.state, rules.thing(Named::Keys))
             => self::offer(rules, number);
         h == BIRD_HINT && is_near(rules, scene.state, rules.thing(Named::Bird))
-            && is_carried(rules, scene.state, rules.thing(Named::Rod))
             && rules.is(scene.state.talk.last, Named::Bird)
+            && is_carried(rules, scene.state, rules.thing(Named::Rod))
             => self::offer(rules, number);
         h == SNAKE_HINT && is_near(rules, scene.state, rules.thing(Named::Snake))
             && !is_near(rules, scene.state, rules.thing(Named::Bird))

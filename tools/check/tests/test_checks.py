@@ -40,8 +40,7 @@ Modelled = of_page(f"{RUN} rows", "rows", "Modelled", VERBS)
 # What is made of the tables of the right page, whose rows say this.
 WORDS: Tables = {"Lamp": ("the lamp", ("LAMP is low", "OIL is low", "otherwise")),
                  "Oil": ("the oil", ("otherwise",))}
-MAKES = runpy.run_path(f"{TOP}/tools/check/rule-words")
-MADE = MAKES["declared"](WORDS)
+MADE = runpy.run_path(f"{TOP}/tools/check/rule-words")["declared"](WORDS)
 Declared = of_page("tools/check/rule-words --check", "rows", "Declared", VERBS | MADE)
 
 if not command_line.skips(len(cases_of("scripts", "Scripts")), "cases of tools/soak/scripts",

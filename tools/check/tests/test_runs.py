@@ -21,6 +21,9 @@ REPOSITORIES: dict[str, Files] = {
     "LOGS": {"bin/git": "#!/bin/sh\necho 1 1\n"} | {
         f"logs/{it}.{kind}": text for it in range(21)
         for kind, text in (("log", f"# run: play\n{it}\n"), ("out", ""))},
+    "SLIPS": {"logs/tools/slips": "check a.txt -o a.txt\n"} | {
+        it: "" for it in ("caves/planted.txt", "caves/planted.bind", "caves/planted.known",
+                          "logs/script/old.txt", "logs/script/new.txt", "logs/first.script")},
     "PLAYED": CAVE | files_of("model"), "SERVED": files_of("runs"),
     "UNSERVED": files_of("runs") | {"tools/page/live": ""},
     **{name: {"bin/cave": MODEL % more} for name, more in {

@@ -111,8 +111,7 @@ def differences(log: Log, old: Sequence[str], new: Sequence[str]) -> Iterator[Hu
 
 def accepted(old: Sequence[str], new: Sequence[str], hunks: Sequence[Hunk]) -> list[str]:
     """The old text with these hunks of the new one."""
-    text: list[str] = []
-    at = 0
+    text, at = list[str](), 0
     for kind, first, end, new_first, new_end in (part for it in hunks for part in it.parts):
         text += old[at:first]
         text += old[first:end] if kind == "equal" else new[new_first:new_end]

@@ -2,6 +2,7 @@
 
 import os
 import re
+from contextlib import suppress
 from difflib import get_close_matches
 from functools import cached_property
 from io import StringIO
@@ -83,13 +84,11 @@ class Log:
     @cached_property
     def comments(self) -> list[str]:
         """The comments before the first other line."""
-        if not self.has(".log"):
-            return []
-        try:
-            with open(f"{self.stem}.log", encoding="latin-1", newline="\n") as file:
-                return [it.rstrip() for it in takewhile(lambda it: it.startswith("#"), file)]
-        except OSError:
-            return []  # `misplaced` says so
+        with suppress(OSError):  # `misplaced` says so
+            if self.has(".log"):
+                with open(f"{self.stem}.log", encoding="latin-1", newline="\n") as file:
+                    return [it.rstrip() for it in takewhile(lambda it: it.startswith("#"), file)]
+        return []
 
     def said(self) -> Iterator[tuple[str, str, list[str] | None]]:
         """Each of these comments with a word before a colon, that word, and what is after it. The

@@ -47,9 +47,8 @@ def run_all(logs: list[Log], said: argparse.Namespace) -> int:
     """Plays logs, several at once, and says in their order what is wrong with them."""
     report: Tap | ForReaders = Tap(said.all) if said.tap else ForReaders(said.all)
     sums, progress = Sums(), Progress(len(logs))
-    results: list[Result] = []
+    results, is_stopped = list[Result](), False
     asked = Asked() if said.is_asking else None
-    is_stopped = False
     say(report.head(len(logs)))
     try:
         with all_played(said.program, logs, said.seconds, said.jobs, said.update) as found:
@@ -131,8 +130,10 @@ def settle(asks: argparse.ArgumentParser, said: argparse.Namespace) -> None:
     """Settles whether transcripts are written, and whether a reader is asked."""
     if said.yes and not (said.update or said.accept):
         asks.error("--yes goes with --update")
-    if said.command and (said.update or said.accept or said.junit or said.tap):
-        asks.error("--command plays nothing, so nothing is reported or written")
+    idle = [it for it in ("accept", "all", "jobs", "junit", "seconds", "tap", "update")
+            if getattr(said, it) != asks.get_default(it)]
+    if said.command and idle:
+        asks.error(f"--command plays nothing, so leave --{idle[0]} out")
     if (said.update or said.accept) and not said.words:
         asks.error(f"--{'update' if said.update else 'accept'} needs the logs that are meant")
     is_terminal = sys.stdin.isatty() and sys.stdout.isatty()
@@ -152,9 +153,7 @@ def chosen(asks: argparse.ArgumentParser, said: argparse.Namespace, suites: Suit
         found = suites.meant(word)
         if not found:
             asks.error(f"{word} is no log of the suite: no log that is run has this name or path")
-        is_one_of = found[1:] and not any(
-            os.path.isdir(os.path.join(it, word)) for it in suites.places)
-        if is_one_of:
+        if found[1:] and not any(os.path.isdir(os.path.join(it, word)) for it in suites.places):
             names = ", ".join(it.name for it in found)
             asks.error(f"{word} may be any of {names}: give its folder too")
         meant.update(dict.fromkeys(found))

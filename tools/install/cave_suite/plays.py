@@ -31,8 +31,7 @@ class Played:
 
 def wrong_status(log: Log, status: int, said: bytes) -> Hunk:
     """What is said about a run that ends with another status."""
-    last = map(visible, lines_of(said)[-CONTEXT:])
-    lines = [f"status {status}, expected {log.status}", *last]
+    lines = [f"status {status}, expected {log.status}", *map(visible, lines_of(said)[-CONTEXT:])]
     cave = log.head.get("cave", [""])[0]
     if cave and not os.path.exists(os.path.join(log.suite.top, cave)):
         lines.append(f"there is no {cave} in {log.suite.top}: --top names another folder")

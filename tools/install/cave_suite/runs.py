@@ -77,8 +77,7 @@ def left_in(folder: str, head: Head) -> Iterator[bytes]:
             yield os.fsencode(f"== {OWN}{name}, a link to {os.readlink(path)}\n")
             continue
         mode = f", mode {stat.S_IMODE(os.stat(path).st_mode):o}" if "mode" in head else ""
-        with open(path, "rb") as file:
-            yield os.fsencode(f"== {OWN}{name}{mode}\n") + file.read()
+        yield os.fsencode(f"== {OWN}{name}{mode}\n") + content(path)
 
 
 def play(program: str, log: Log, seconds: float) -> tuple[bytes, int]:

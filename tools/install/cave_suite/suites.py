@@ -1,6 +1,5 @@
 """Suites of logs: which logs they have, which of them words mean, and how they are divided."""
 
-import heapq
 import os
 from functools import cached_property
 from typing import Iterable, Iterator
@@ -134,17 +133,16 @@ class Suites:
         for folder in self.paths(word, self.places):
             if os.path.isdir(folder) and (found := self.of(folder).logs(folder)):
                 return found
-        ends = f"/{stem}"
-        return [it for name, it in names.items() if name.endswith(ends) and it.is_run]
+        return [it for name, it in names.items() if name.endswith(f"/{stem}") and it.is_run]
 
 
 def shards(logs: Iterable[Log], count: int) -> list[list[Log]]:
     """Logs in parts that have about as many lines each, in the order of the logs."""
     order = {log: at for at, log in enumerate(logs)}
     parts: list[list[Log]] = [[] for _ in range(count)]
-    lines = [(0, at) for at in range(count)]
+    lines = [0] * count
     for log in sorted(order, key=lambda it: (-it.line_count, it.name)):
-        least, at = heapq.heappop(lines)
+        at = lines.index(min(lines))
         parts[at].append(log)
-        heapq.heappush(lines, (least + log.line_count + 1, at))
+        lines[at] += log.line_count + 1
     return [sorted(it, key=order.__getitem__) for it in parts]

@@ -57,8 +57,7 @@ class Asked:
                hunks: Sequence[Hunk]) -> list[Hunk]:
         """Writes the hunks that the reader accepts, also if the questions are interrupted; gives
         those that are left."""
-        taken: list[Hunk] = []
-        left: list[Hunk] = []
+        taken, left = list[Hunk](), list[Hunk]()
         try:
             for at, hunk in enumerate(hunks):
                 said = self.answer(log, hunk)

@@ -48,10 +48,7 @@ def script_of(steps: Steps) -> str:
 
 
 def main() -> int:
-    asks = command_line.parser()
-    asks.add_argument("steps", metavar="STEPS")
-    asks.add_argument("--output", metavar="CHART.svg")
-    said = asks.parse_args()
+    said = command_line.parser("STEPS", output="CHART.svg").parse_args()
     if said.output:
         demand_output(said.output, "/dev/stdin" if said.steps == "-" else said.steps)
     if lost := command_line.missing("gnuplot"):

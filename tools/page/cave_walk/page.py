@@ -161,11 +161,7 @@ def made(said: argparse.Namespace, program: str, progress: Progress) -> bytes:
 
 
 def main() -> int:
-    asks = command_line.parser()
-    asks.add_argument("cave", metavar="CAVE")
-    asks.add_argument("log", metavar="LOG")
-    for option, value in ("bind", "FILE"), ("seed", "N"), ("against", "LOG2"), ("program", "FILE"):
-        asks.add_argument(f"--{option}", metavar=value)
+    asks = command_line.parser("CAVE", "LOG", bind="FILE", seed="N", against="LOG2", program="FILE")
     asks.add_argument("--output", metavar="WALK.html", required=True)
     said, progress = asks.parse_args(), Progress()
     judge_files(said)

@@ -29,14 +29,9 @@ ENDS = (signal.SIGINT, signal.SIGTERM, signal.SIGHUP)
 
 
 def asked() -> argparse.Namespace:
-    asks = command_line.parser()
-    asks.add_argument("cave", metavar="CAVE")
-    asks.add_argument("log", metavar="LOG")
-    asks.add_argument("--bind", metavar="FILE")
-    asks.add_argument("--seed", metavar="N", default="0")
+    asks = command_line.parser("CAVE", "LOG", bind="FILE", seed="N", output="LOG2", program="FILE")
+    asks.set_defaults(seed="0")
     asks.add_argument("--port", metavar="P", type=port, default=0)
-    asks.add_argument("--output", metavar="LOG2")
-    asks.add_argument("--program", metavar="FILE")
     asks.add_argument("--no-browser", action="store_true")
     return asks.parse_args()
 
@@ -84,8 +79,7 @@ def serve(site: Site, at: int, opens: bool) -> None:
         server = Server(site, at)
     except OSError as error:
         raise Stop(f"port {at} can't be had: {error.strerror}", UNWRITTEN) from None
-    thread = threading.Thread(target=server.serve_forever, args=(0.1,), daemon=True)
-    thread.start()
+    threading.Thread(target=server.serve_forever, args=(0.1,), daemon=True).start()
     print(f"{site.home.path}: {server.address}", "Ctrl-C ends it.", sep="\n", flush=True)
     if opens:
         threading.Thread(target=webbrowser.open, args=(server.address,), daemon=True).start()

@@ -109,9 +109,8 @@ def patch_of(old: Held, new: Held, report: Report) -> Patch:
     turns = turns_of(later[0]) - turns_of(was[0]) if later else 0
     others = [now for before, now in zip(was, later)
               if beside_its_numbers(before) != beside_its_numbers(now)] if turns else []
-    opening = None if new.walk[0] == old.walk[0] else new.walk[0]
     return Patch(report.start, until, old_until, turns, new.walk[1 + report.start:1 + until],
-                 others, opening)
+                 others, None if new.walk[0] == old.walk[0] else new.walk[0])
 
 
 def otherwise(old: list[str], new: list[str]) -> tuple[list[str], list[str]]:

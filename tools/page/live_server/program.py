@@ -58,6 +58,5 @@ class Program(NamedTuple):
             message = ran.stderr.decode(errors="replace").rstrip("\n")
             for it in sorted(given, key=lambda it: it.number, reverse=True):
                 message = message.replace(it.path, it.name)
-            told = message or f"the program ended with status {ran.returncode}"
-            raise Stop(told, ran.returncode)
+            raise Stop(message or f"the program ended with status {ran.returncode}", ran.returncode)
         return ran.stdout

@@ -19,14 +19,15 @@ returns-in_err-text g c =
       leads = once g.I.Sources.Reads _ _ _ c.in_err-text.ensures.reads;
     })
 
-pub returns-in-Ok : goal.returns-in-Ok
-returns-in-Ok g c =
+pub returns : goal.returns
+returns g c =
     let (bytes, said, read) = c.in_ok-text.ensures.read in
-    let items = c.in-Ok.script.items in
+    let items = c.in_ok-script.script.items in
     let same = c.deref.ensures.value ∙ read.0 in
     let guarded = c.args.guarded in
-    let is = ap (script_by guarded) (sym same) ∙ c.in-Ok.ensures.script in
-    let spelled = subst (λ t. IsScriptBy guarded t (items_of items)) same c.in-Ok.ensures.grammar in
+    let is = ap (script_by guarded) (sym same) ∙ c.in_ok-script.ensures.script in
+    let grammar = c.in_ok-script.ensures.grammar in
+    let spelled = subst (λ t. IsScriptBy guarded t (items_of items)) same grammar in
     record {
       judged = (
         bytes,
@@ -36,7 +37,7 @@ returns-in-Ok g c =
               (script_fault-none guarded bytes _ read.1 is),
           (
             spelled,
-            few_items guarded items _ bytes c.in-Ok.ensures.grammar same read.1,
+            few_items guarded items _ bytes grammar same read.1,
             is,
             read.0,
           ),
@@ -45,16 +46,19 @@ returns-in-Ok g c =
       leads = once g.I.Sources.Reads _ _ _ c.in_ok-text.ensures.reads;
     }
 
-pub returns-in-Err : goal.returns-in-Err
-returns-in-Err g c =
+pub returns-in_err-script : goal.returns-in_err-script
+returns-in_err-script g c =
+    let exit =
+    err_from_is_err_and c.from_residual-in_err-script.result
+    c.from_residual-in_err-script.ensures.1 in
     let (bytes, said, read) = c.in_ok-text.ensures.read in
-    rw c.script_refusal.ensures
+    rw (exit.1, exit.2)
     (record {
       judged = (
         bytes,
         said,
-        IsFoundIn-refused c.args.guarded bytes _ c.in-Err.fault read.1
-            (c.deref.ensures.value ∙ read.0) c.in-Err.ensures.script,
+        IsFoundIn-refused c.args.guarded bytes _ _ read.1
+            (c.deref.ensures.value ∙ read.0) c.in_err-script.ensures.script,
       );
       leads = once g.I.Sources.Reads _ _ _ c.in_ok-text.ensures.reads;
     })

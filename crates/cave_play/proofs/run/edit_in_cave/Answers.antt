@@ -1,5 +1,6 @@
 use Rattle.cave_play.proofs.SourceLemmas.{goes_on, once, stays, same_script_after_log}
-use Rattle.std.proofs.Common.{◌≡◌, ◌≤◌, ℕ, List, [], ◌∷◌, length, None, Ok, Err, Option, subst, sym}
+use Rattle.std.proofs.Common.{ap, ◌≡◌, ◌≤◌, ℕ, List, [], ◌∷◌, length, None, Ok, Err}
+use Rattle.std.proofs.Common.{Option, subst, sym}
 use Rattle.std.proofs.Common.{◌∙◌}
 use Rattle.std.specs.Prelude.{⊤}
 use Rattle.base_lines.specs.Limits.{MAX_INPUT_BYTES}
@@ -7,21 +8,23 @@ use Rattle.play_machine.specs.Machine.{HoldsGame}
 use Rattle.cave_play.specs.Stages.{lines_fault, IsFoundIn, Judges, Stage, first_decided}
 use Rattle.cave_play.specs.Stages.{judging_stage, log_stage, script_stage, strict_stage}
 use Rattle.cave_play.specs.declared.fault.PlayFault.{PlayFault}
-use Rattle.cave_play.proofs.JudgeLemmas.{IsFoundIn-log, Judges-log}
+use Rattle.cave_play.proofs.JudgeLemmas.{IsFoundIn-log, IsFoundIn-opened, Judges-log}
+use Rattle.cave_play.proofs.JudgeLemmas.{lines_fault-opened}
+use Rattle.std.specs.Result.{result_from_control_flow}
 use Rattle.std.specs.Str.Lines.{lines}
 use Rattle.std.proofs.lemmas.Result.{err_from_is_err_and}
 use Rattle.cave_data.specs.CaveView.{CaveView}
 use Rattle.play_command.specs.declared.line.Editing.{Editing}
+use Rattle.play_command.specs.declared.views.ReportView.{ReportView}
 use Rattle.replay_edits.specs.Edit.{Game, IsGame, game_of}
 use Rattle.play_edits.specs.Views.{IsMadeOf}
-use Rattle.play_command.specs.declared.views.ReportView.{ReportView}
 use Rattle.play_edits.specs.Ends.{log_ends}
 use Rattle.play_edits.specs.declared.items.MadeEdit.{MadeEdit}
 use Rattle.cave_play.specs.Sources.{next_log}
 use Rattle.cave_play.proofs.InputLemmas.{Says-some}
 use Rattle.cave_play.proofs.AcceptedLogs.{IsGame-accepted}
 use Rattle.cave_play.proofs.StageLemmas.{IsFoundIn-first, IsFoundIn-memory, Judges-later}
-use Rattle.cave_play.proofs.StageLemmas.{first_decided-alone}
+use Rattle.cave_play.proofs.StageLemmas.{first_decided-alone, first_decided-one}
 use Rattle.cave_play.proofs.run.edit_in_cave.Goals as goal
 
 -- the stage of the items of the script
@@ -54,10 +57,20 @@ pub edit_session-made-requires-clause-game : goal.edit_session-made-requires-cla
 edit_session-made-requires-clause-game g c =
     let (moves, said, read) = c.in_ok-bytes.ensures.read in
     let cave = c.new-machine.result.rules.cave.now in
+    let text = lines c.deref.result.now in
+    let is = c.branch-session.ensures ∙ ap result_from_control_flow c.in_ok-session.is in
+    let none =
+    lines_fault-opened c.args.editing.every text c.args.editing.seed _ _ c.requires.every_fits is
+    c.open.ensures.faults in
+    let opened : HoldsGame c.new-machine.result.rules.cave.now (game_of c.args.editing.seed text)
+    c.in_ok-session.session = record {
+      cave_is = ap (λ m. m.rules.cave.now) c.in_ok-session.ensures.kept.0;
+      game_is = c.in_ok-session.ensures.game;
+    } in
     let made =
     log_judged (λ log. HoldsGame cave (game_of c.args.editing.seed log)) moves c.deref.result.now
     c.in_ok-session.session (c.deref.ensures.value ∙ read.0) read.1
-    c.in_ok-session.ensures.judged in
+    (first_decided-one (judging_stage (lines_fault text)) none, opened) in
     let free = first_decided-alone (log_stage moves) made.0 in
     subst IsGame (sym made.1.game_is)
     (IsGame-accepted moves c.args.editing.seed free c.requires.seed_fits)
@@ -121,7 +134,10 @@ returns-in_err-session g c =
         IsFoundIn-first (log_stage moves ∷ [])
             (script_stage guarded edits ∷ strict_of c.args.editing moves edits ∷ []) _
             (log_refused moves c.deref.result.now _ (c.deref.ensures.value ∙ read.0) read.1
-            c.in_err-session.ensures.judged),
+            (IsFoundIn-opened c.args.editing.every (lines c.deref.result.now)
+            c.args.editing.seed _ _ c.requires.seed_fits c.requires.every_fits
+            (c.branch-session.ensures ∙ ap result_from_control_flow c.in_err-session.is)
+            c.open.ensures.faults)),
       );
       leads = once g.I.Sources.Reads _ _ _ c.in_ok-bytes.ensures.reads;
     })
@@ -138,16 +154,27 @@ returns g c =
     let right = λ (cave : CaveView). right_in c.args.report editing edits cave editing.every game
     moves in
     let held = c.in_ok-session.session in
+    let text = lines c.deref.result.now in
+    let is = c.branch-session.ensures ∙ ap result_from_control_flow c.in_ok-session.is in
+    let none =
+    lines_fault-opened editing.every text editing.seed _ _ c.requires.every_fits is
+    c.open.ensures.faults in
+    let opened : HoldsGame c.new-machine.result.rules.cave.now (game_of c.args.editing.seed text)
+    c.in_ok-session.session = record {
+      cave_is = ap (λ m. m.rules.cave.now) c.in_ok-session.ensures.kept.0;
+      game_is = c.in_ok-session.ensures.game;
+    } in
     let made =
     log_judged (λ log. HoldsGame cave (game_of editing.seed log)) moves c.deref.result.now held
-    (c.deref.ensures.value ∙ read.0) read.1 c.in_ok-session.ensures.judged in
+    (c.deref.ensures.value ∙ read.0) read.1
+    (first_decided-one (judging_stage (lines_fault text)) none, opened) in
     let log = c.deref-2.result.now in
     let log_is = c.deref-2.ensures.value ∙ read.0 in
     let held_cave = held.machine.rules.cave.now in
     let held_right = right_in c.args.report editing edits held_cave held.every held.game log in
     let gives : (edited : MadeEdit) → held_right edited → right cave edited =
     λ edited is.
-    rw (← made.1.game_is, ← log_is, ← c.in_ok-session.ensures.every, ← made.1.cave_is) is in
+    rw (← made.1.game_is, ← log_is, ← c.in_ok-session.ensures.kept.1, ← made.1.cave_is) is in
     let strict = strict_of editing moves edits in
     let staged =
     subst (λ (game : Game). Judges (script_stage guarded edits

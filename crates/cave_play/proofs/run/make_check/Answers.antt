@@ -4,7 +4,6 @@ use Rattle.cave_play.proofs.DoubtLemmas.{IsChecked-read}
 use Rattle.cave_play.proofs.SourceLemmas.{AreHeld-by, texts_by}
 use Rattle.cave_play.proofs.StageLemmas.{Judges-made}
 use Rattle.cave_play.proofs.run.make_check.Goals as goal
-use Rattle.play_command.specs.declared.line.Input.TheVariants.{Script}
 
 pub returns-in_err-read : goal.returns-in_err-read
 returns-in_err-read g c =
@@ -14,8 +13,8 @@ returns-in_err-read g c =
     rw (exit.1, exit.2)
     (record {
       judged = (
-        texts_by Script held database bindings,
-        AreHeld-by Script held database bindings one two,
+        texts_by held database bindings,
+        AreHeld-by held database bindings one two,
         found,
       );
       leads = c.in_err-read.ensures.leads;
@@ -27,8 +26,8 @@ returns g c =
     let (database, bindings, one, two, read) = c.in_ok-read.ensures.judged in
     record {
       judged = (
-        texts_by Script held database bindings,
-        AreHeld-by Script held database bindings one two,
+        texts_by held database bindings,
+        AreHeld-by held database bindings one two,
         Judges-made (cave_stages database bindings) _ _ _ read.0
             (λ made told. IsChecked-read c.args.view database bindings made.text.items
             c.in_ok-read.read read.1 told)

@@ -1,5 +1,5 @@
-use Rattle.cave_play.proofs.SourceLemmas.{once, goes_on, AreHeld-by, said, same_said, some_bytes}
-use Rattle.cave_play.proofs.SourceLemmas.{texts_by}
+use Rattle.cave_play.proofs.SourceLemmas.{once, goes_on, AreHeld-by, same_said, some_bytes}
+use Rattle.cave_play.proofs.SourceLemmas.{said, texts_by}
 use Rattle.std.proofs.Common.{[], ◌∷◌, ◌∙◌, ap}
 use Rattle.std.proofs.lemmas.Result.{err_from_is_err_and}
 use Rattle.cave_play.specs.Sources.{Held, next_log}
@@ -9,7 +9,6 @@ use Rattle.cave_play.proofs.JudgeLemmas.{IsFoundIn-known, first_decided-known}
 use Rattle.cave_play.proofs.StageLemmas.{IsFoundIn-first, IsFoundIn-later, IsFoundIn-memory}
 use Rattle.cave_play.proofs.StageLemmas.{first_decided-later}
 use Rattle.cave_play.proofs.run.make_doubts.Goals as goal
-use Rattle.play_command.specs.declared.line.Input.TheVariants.{Known}
 
 pub returns-in_err-read : goal.returns-in_err-read
 returns-in_err-read g c =
@@ -20,8 +19,8 @@ returns-in_err-read g c =
     rw (exit.1, exit.2)
     (record {
       judged = (
-        texts_by Known held database bindings,
-        AreHeld-by Known held database bindings one two,
+        texts_by held database bindings,
+        AreHeld-by held database bindings one two,
         IsFoundIn-first (cave_stages database bindings) (known ∷ []) _ found,
       );
       leads = c.in_err-read.ensures.leads;
@@ -38,17 +37,14 @@ returns-in_err-listed g c =
     rw (exit.1, exit.2)
     (record {
       judged = (
-        record {
-          database = database;
-          bindings = bindings;
-          log = some_bytes (next_log held.logs);
-          script = known;
-        },
+        record (texts_by held database bindings) { known = known },
         record {
           database = one;
           bindings = two;
           log = said (next_log held.logs);
-          script = same_said _ _ known (ap (λ (h : Held). h.known) c.in_ok-read.ensures.others) four;
+          new_log = said held.new_log;
+          script = said held.script;
+          known = same_said _ _ known (ap (λ (h : Held). h.known) c.in_ok-read.ensures.others) four;
         },
         IsFoundIn-later (cave_stages database bindings) (known_stage known ∷ []) _ read.0
             (IsFoundIn-known known _ refused),
@@ -67,8 +63,8 @@ returns-in_err-found g c =
     rw (exit.1, exit.2)
     (record {
       judged = (
-        texts_by Known held database bindings,
-        AreHeld-by Known held database bindings one two,
+        texts_by held database bindings,
+        AreHeld-by held database bindings one two,
         IsFoundIn-memory (doubts_stages database bindings (some_bytes held.known)),
       );
       leads = goes_on g.I.Sources.Reads _ _ _ c.in_ok-read.ensures.leads
@@ -85,17 +81,14 @@ returns g c =
     ∙ first_decided-known known is.1 in
     record {
       judged = (
-        record {
-          database = database;
-          bindings = bindings;
-          log = some_bytes (next_log held.logs);
-          script = known;
-        },
+        record (texts_by held database bindings) { known = known },
         record {
           database = one;
           bindings = two;
           log = said (next_log held.logs);
-          script = same_said _ _ known (ap (λ (h : Held). h.known) c.in_ok-read.ensures.others) four;
+          new_log = said held.new_log;
+          script = said held.script;
+          known = same_said _ _ known (ap (λ (h : Held). h.known) c.in_ok-read.ensures.others) four;
         },
         (
           decided,

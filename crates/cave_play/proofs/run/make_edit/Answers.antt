@@ -1,5 +1,5 @@
 use Rattle.cave_play.proofs.SourceLemmas.{goes_on, stays, AreHeld-by, AreHeld-some, same_said}
-use Rattle.cave_play.proofs.SourceLemmas.{some_texts, texts_by}
+use Rattle.cave_play.proofs.SourceLemmas.{said, some_texts, texts_by}
 use Rattle.std.proofs.Common.{◌∷◌, ◌++◌, inl, inr, ap}
 use Rattle.std.proofs.lemmas.Result.{err_from_is_err_and}
 use Rattle.cave_play.specs.Stages.{every_fault, large_seed, cave_stages, judging_stage}
@@ -7,7 +7,6 @@ use Rattle.cave_play.proofs.FinishLemmas.{Judges-finished, after_cave}
 use Rattle.cave_play.specs.Sources.{Held, next_log}
 use Rattle.cave_play.proofs.StageLemmas.{IsFoundIn-first, Judges-after, Judges-later}
 use Rattle.cave_play.proofs.run.make_edit.Goals as goal
-use Rattle.play_command.specs.declared.line.Input.TheVariants.{Script}
 
 pub returns-in_err-check_seed : goal.returns-in_err-check_seed
 returns-in_err-check_seed g c =
@@ -16,8 +15,8 @@ returns-in_err-check_seed g c =
     rw (exit.1, exit.2)
     (record {
       judged = (
-        some_texts Script held,
-        AreHeld-some Script held,
+        some_texts held,
+        AreHeld-some held,
         inl (inr c.in_err-check_seed.ensures),
       );
       leads = stays g.I.Sources.Reads _;
@@ -32,8 +31,8 @@ returns-in_err-check_every g c =
     rw (exit.1, exit.2)
     (record {
       judged = (
-        some_texts Script held,
-        AreHeld-some Script held,
+        some_texts held,
+        AreHeld-some held,
         inr (c.in_ok-check_seed.ensures, inl (inr c.in_err-check_every.ensures)),
       );
       leads = stays g.I.Sources.Reads _;
@@ -46,7 +45,7 @@ returns-in_err-read g c =
     c.from_residual-in_err-read.ensures.1 in
     let held = g.I.Sources.held c.args.inputs.now in
     let (database, bindings, one, two, refused) = c.in_err-read.ensures.judged in
-    let texts = texts_by Script held database bindings in
+    let texts = texts_by held database bindings in
     let found =
     IsFoundIn-first (cave_stages database bindings)
     (after_cave texts.log texts.script c.args.editing) _ refused in
@@ -54,7 +53,7 @@ returns-in_err-read g c =
     (record {
       judged = (
         texts,
-        AreHeld-by Script held database bindings one two,
+        AreHeld-by held database bindings one two,
         inr (c.in_ok-check_seed.ensures, inr (c.in_ok-check_every.ensures, found)),
       );
       leads = c.in_err-read.ensures.leads;
@@ -62,6 +61,7 @@ returns-in_err-read g c =
 
 pub returns : goal.returns
 returns g c =
+    let held = g.I.Sources.held c.args.inputs.now in
     let (database, bindings, one, two, read) = c.in_ok-read.ensures.judged in
     let (moves, edits, three, four, made) = c.edit_in_cave-made.ensures.judged in
     let editing = c.args.editing in
@@ -74,12 +74,14 @@ returns g c =
     c.finish_edit.ensures in
     record {
       judged = (
-        record { database = database; bindings = bindings; log = moves; script = edits },
+        record (texts_by held database bindings) { log = moves; script = edits },
         record {
           database = one;
           bindings = two;
           log = same_said _ _ moves (ap (λ (h : Held). next_log h.logs) others) three;
+          new_log = said held.new_log;
           script = same_said _ _ edits (ap (λ (h : Held). h.script) others) four;
+          known = said held.known;
         },
         Judges-after (large_seed editing.seed) (every ∷ cave ++ later) _ _
             c.in_ok-check_seed.ensures

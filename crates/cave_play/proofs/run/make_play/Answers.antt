@@ -1,12 +1,11 @@
-use Rattle.cave_play.proofs.SourceLemmas.{goes_on, stays, AreHeld-by, AreHeld-some, said, same_said}
-use Rattle.cave_play.proofs.SourceLemmas.{some_bytes, some_texts, texts_by}
+use Rattle.cave_play.proofs.SourceLemmas.{goes_on, stays, AreHeld-by, AreHeld-some, same_said}
+use Rattle.cave_play.proofs.SourceLemmas.{said, some_bytes, some_texts, texts_by}
 use Rattle.std.proofs.Common.{[], ◌∷◌, ◌++◌, inl, inr, ap}
 use Rattle.std.proofs.lemmas.Result.{err_from_is_err_and}
 use Rattle.cave_play.specs.Stages.{large_seed, cave_stages, log_stage}
 use Rattle.cave_play.specs.Sources.{Held, next_log}
 use Rattle.cave_play.proofs.StageLemmas.{IsFoundIn-first, Judges-after, Judges-later}
 use Rattle.cave_play.proofs.run.make_play.Goals as goal
-use Rattle.play_command.specs.declared.line.Input.TheVariants.{Script}
 
 pub returns-in_err-check_seed : goal.returns-in_err-check_seed
 returns-in_err-check_seed g c =
@@ -15,8 +14,8 @@ returns-in_err-check_seed g c =
     rw (exit.1, exit.2)
     (record {
       judged = (
-        some_texts Script held,
-        AreHeld-some Script held,
+        some_texts held,
+        AreHeld-some held,
         inl (inr c.in_err-check_seed.ensures),
       );
       leads = stays g.I.Sources.Reads _;
@@ -33,8 +32,8 @@ returns-in_err-read g c =
     rw (exit.1, exit.2)
     (record {
       judged = (
-        texts_by Script held database bindings,
-        AreHeld-by Script held database bindings one two,
+        texts_by held database bindings,
+        AreHeld-by held database bindings one two,
         inr (
           c.in_ok-check_seed.ensures,
           IsFoundIn-first (cave_stages database bindings) (log ∷ []) _ refused,
@@ -52,18 +51,15 @@ returns g c =
     let log = log_stage moves ∷ [] in
     record {
       judged = (
-        record {
-          database = database;
-          bindings = bindings;
-          log = moves;
-          script = some_bytes held.script;
-        },
+        record (texts_by held database bindings) { log = moves },
         record {
           database = one;
           bindings = two;
           log = same_said _ _ moves
               (ap (λ (h : Held). next_log h.logs) c.in_ok-read.ensures.others) three;
+          new_log = said held.new_log;
           script = said held.script;
+          known = said held.known;
         },
         Judges-after (large_seed c.args.seed) (cave ++ log) _ _ c.in_ok-check_seed.ensures
             (Judges-later cave log _ _ _ read.0

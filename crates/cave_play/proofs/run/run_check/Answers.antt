@@ -1,5 +1,3 @@
-use Rattle.std.proofs.Common.{refl}
-use Rattle.play_command.specs.declared.line.Input.TheVariants.{Script}
 use Rattle.cave_play.proofs.SourceLemmas.{AreTextsOf-held}
 use Rattle.cave_play.proofs.run.run_check.Goals as goal
 
@@ -10,8 +8,8 @@ returns g c =
       runs = (
         texts,
         AreTextsOf-held g.C.Read.remaining g.B.Read.remaining g.L.Read.remaining
-            g.S.Read.remaining c.args.inputs.now c.of-readers.result c.of-readers.ensures Script
-            texts refl are,
+            g.S.Read.remaining c.args.inputs.now c.of-readers.result c.of-readers.ensures texts
+            are,
         (c.make_check-made.result, judged, c.write_report.ensures),
       );
     }

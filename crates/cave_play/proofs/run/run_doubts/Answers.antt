@@ -1,7 +1,6 @@
 use Rattle.std.proofs.Common.{Err, Ok, ap, refl, ◌∙◌}
 use Rattle.std.proofs.lemmas.Result.{err_from_is_err_and}
 use Rattle.cave_play.specs.Output.{by_doubt, first_doubt}
-use Rattle.play_command.specs.declared.line.Input.TheVariants.{Known}
 use Rattle.cave_play.proofs.SourceLemmas.{AreTextsOf-held}
 use Rattle.cave_play.proofs.run.run_doubts.Goals as goal
 
@@ -14,8 +13,8 @@ returns-in_err-left g c =
       runs = (
         texts,
         AreTextsOf-held g.C.Read.remaining g.B.Read.remaining g.L.Read.remaining
-            g.S.Read.remaining c.args.inputs.now c.of-readers.result c.of-readers.ensures Known
-            texts refl are,
+            g.S.Read.remaining c.args.inputs.now c.of-readers.result c.of-readers.ensures texts
+            are,
         (Err _, refl, (c.make_doubts-made.result, judged, c.in_err-left.ensures)),
       );
     })
@@ -27,8 +26,8 @@ returns-in-Some g c =
       runs = (
         texts,
         AreTextsOf-held g.C.Read.remaining g.B.Read.remaining g.L.Read.remaining
-            g.S.Read.remaining c.args.inputs.now c.of-readers.result c.of-readers.ensures Known
-            texts refl are,
+            g.S.Read.remaining c.args.inputs.now c.of-readers.result c.of-readers.ensures texts
+            are,
         (
           Ok c.in_ok-left.left,
           ap by_doubt (c.in-Some.ensures ∙ ap (first_doubt c.args.strict) c.deref.ensures.value),
@@ -44,8 +43,8 @@ returns g c =
       runs = (
         texts,
         AreTextsOf-held g.C.Read.remaining g.B.Read.remaining g.L.Read.remaining
-            g.S.Read.remaining c.args.inputs.now c.of-readers.result c.of-readers.ensures Known
-            texts refl are,
+            g.S.Read.remaining c.args.inputs.now c.of-readers.result c.of-readers.ensures texts
+            are,
         (
           Ok c.in_ok-left.left,
           ap by_doubt (c.in-None.ensures ∙ ap (first_doubt c.args.strict) c.deref.ensures.value),

@@ -1,5 +1,5 @@
 use Rattle.cave_play.proofs.TwoLogLemmas.{leads_within}
-use Rattle.cave_play.proofs.SourceLemmas.{goes_on, said, some_bytes}
+use Rattle.cave_play.proofs.SourceLemmas.{goes_on, said, some_texts, texts_by}
 use Rattle.std.proofs.Common.{ℕ, List, inl, inr, refl, rules, subst, sym, ◌∙◌}
 use Rattle.std.proofs.lemmas.Result.{err_from_is_err_and}
 use Rattle.cave_play.specs.Output.{IsMadeEdit, IsDifferenceOf, form_of}
@@ -15,17 +15,14 @@ returns-in_err-compared g c =
     rw (exit.1, exit.2)
     (record {
       judged = (
-        record {
-          database = some_bytes held.cave;
-          bindings = some_bytes held.bindings;
-          log = old;
-          script = made;
-        },
+        record (some_texts held) { log = old; new_log = made },
         record {
           database = said held.cave;
           bindings = said held.bindings;
           log = three;
-          script = four;
+          new_log = four;
+          script = said held.script;
+          known = said held.known;
         },
         inl (_, refl, found),
       );
@@ -34,6 +31,7 @@ returns-in_err-compared g c =
 
 pub returns-clause-judged : goal.returns-clause-judged
 returns-clause-judged g c =
+    let held = g.I.Sources.held c.args.inputs.now in
     let (old, made, three, four, judged) = c.in_ok-compared.ensures.judged in
     let (kept, difference) = judged.1 in
     let (texts, are, edited) = c.make_edit.ensures.judged in
@@ -45,12 +43,7 @@ returns-clause-judged g c =
     subst (λ (log : List ℕ). Judges
     (edit_stages texts.database texts.bindings log texts.script editing)
     (IsMadeEdit (record texts { log = log }) editing report) c.make_edit.result) log_is edited in (
-      record {
-        database = texts.database;
-        bindings = texts.bindings;
-        log = old;
-        script = made;
-      },
+      record (texts_by held texts.database texts.bindings) { log = old; new_log = made },
       record {
         database =
             subst (λ known. Says known texts.database) c.in_ok-compared.ensures.cave are.database;
@@ -58,7 +51,9 @@ returns-clause-judged g c =
             subst (λ known. Says known texts.bindings) c.in_ok-compared.ensures.bindings
             are.bindings;
         log = three;
-        script = four;
+        new_log = four;
+        script = said held.script;
+        known = said held.known;
       },
       inr (
         texts.script,

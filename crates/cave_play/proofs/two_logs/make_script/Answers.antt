@@ -2,10 +2,10 @@ use Rattle.std.proofs.Common.{ℕ, Bool, List, None, Some, nat_lt, ap, inl, inr,
 use Rattle.std.specs.Prelude.{if◌then◌else◌, ◌∷◌, []}
 use Rattle.std.proofs.lemmas.Result.{err_from_is_err_and}
 use Rattle.base_lines.specs.Limits.{MAX_INPUT_BYTES}
-use Rattle.cave_play.specs.Sources.{Held, InputTexts}
+use Rattle.cave_play.specs.Sources.{AreHeld, Held, InputTexts, Says, next_log}
 use Rattle.cave_play.specs.Output.{script_size_stage, two_logs_stages}
 use Rattle.cave_play.specs.declared.fault.PlayFault.TheVariants.{LargeScript}
-use Rattle.cave_play.proofs.SourceLemmas.{said, some_bytes}
+use Rattle.cave_play.proofs.SourceLemmas.{said, some_texts}
 use Rattle.cave_play.proofs.StageLemmas.{IsFoundIn-later, first_decided-later, first_decided-one}
 use Rattle.cave_play.proofs.two_logs.make_script.Goals as goal
 
@@ -14,11 +14,17 @@ is_large bytes = nat_lt MAX_INPUT_BYTES bytes
 
 -- two logs, and a cave that isn't asked for
 abbrev texts_with : Held → List ℕ → List ℕ → InputTexts
-texts_with held old made = record {
-  database = some_bytes held.cave;
-  bindings = some_bytes held.bindings;
-  log = old;
-  script = made;
+texts_with held old made = record (some_texts held) { log = old; new_log = made }
+
+two_held : (held : Held) (old made : List ℕ) → Says (next_log held.logs) old
+    → Says held.new_log made → AreHeld held (texts_with held old made)
+two_held held old made three four = record {
+  database = said held.cave;
+  bindings = said held.bindings;
+  log = three;
+  new_log = four;
+  script = said held.script;
+  known = said held.known;
 }
 
 pub returns-in_err-compared : goal.returns-in_err-compared
@@ -30,12 +36,7 @@ returns-in_err-compared g c =
     (record {
       judged = (
         texts_with held old made,
-        record {
-          database = said held.cave;
-          bindings = said held.bindings;
-          log = three;
-          script = four;
-        },
+        two_held held old made three four,
         inl (_, refl, found),
       );
       leads = c.in_err-compared.ensures.leads;
@@ -51,12 +52,7 @@ returns-then-is_large_input g c =
     record {
       judged = (
         texts_with held old made,
-        record {
-          database = said held.cave;
-          bindings = said held.bindings;
-          log = three;
-          script = four;
-        },
+        two_held held old made three four,
         inr (
           script.items,
           judged.1.1,
@@ -78,12 +74,7 @@ returns g c =
     record {
       judged = (
         texts_with held old made,
-        record {
-          database = said held.cave;
-          bindings = said held.bindings;
-          log = three;
-          script = four;
-        },
+        two_held held old made three four,
         inr (
           script.items,
           judged.1.1,

@@ -1,6 +1,7 @@
-use Rattle.std.proofs.Common.{Err, Ok, ap, inl, inr, refl, sym, ◌∙◌}
+use Rattle.std.proofs.Common.{Err, None, Ok, ap, inl, inr, refl, sym, ◌∙◌}
 use Rattle.std.proofs.lemmas.Result.{err_from_is_err_and}
-use Rattle.play_program.specs.Ends.{with_left}
+use Rattle.play_program.specs.Files.{fault_told}
+use Rattle.std.specs.Option.{option_map_or}
 use Rattle.play_program.proofs.run.run_apart.Goals as goal
 
 pub returns-in_err-check_output : goal.returns-in_err-check_output
@@ -40,7 +41,8 @@ returns-in-Some g c =
         (
           Ok tt,
           c.in_ok-deliver.ensures,
-          ap Err c.of_fault.ensures ∙ ap (λ left. with_left c.args.request.now left made.edits)
+          ap Err c.of_fault.ensures ∙ ap (λ left. option_map_or
+              (λ found. Err (fault_told c.args.request.now found None)) left (Ok made.edits))
               (sym c.in-Some.is),
         ),
       ),
@@ -58,7 +60,9 @@ returns g c =
         (
           Ok tt,
           c.in_ok-deliver.ensures,
-          ap (λ left. with_left c.args.request.now left made.edits) (sym c.in-None.is),
+          ap (λ left. option_map_or
+              (λ found. Err (fault_told c.args.request.now found None)) left (Ok made.edits))
+              (sym c.in-None.is),
         ),
       ),
     )

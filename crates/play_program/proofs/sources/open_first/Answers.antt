@@ -35,7 +35,7 @@ returns-in-Err-clause-opened g c =
     (opening what (named_file (get_or l i no_file) ∷ []))) same in
     stopped-next what files i no_file
     (subst (λ l. i < length l) same c.loop-file-test.true) _ _ _ c.loop-file.invariant.opened said
-    ([], file, [], record { files_are = refl; calls = called; stopped = inl c.memory.ensures })
+    ([], file, [], refl, called, inl c.memory.ensures)
 
 pub loop-file-preserved : goal.loop-file-preserved
 loop-file-preserved g c =

@@ -2,7 +2,7 @@ use Rattle.std.proofs.Common.{◌≡◌, ◌+◌, ◌≤◌, take}
 use Rattle.arrayvec.specs.ArrayVec.{array_vec_len}
 use Rattle.turn_scene.specs.Scene.{scene_of, GoesOn}
 use Rattle.cave_verbs.specs.Finding.{after_naming}
-use Rattle.cave_verbs.proofs.task.Task.name_them.Given as goal
+use Rattle.cave_verbs.proofs.finding.name_them.Given as goal
 
 -- the objects before here are named
 abbrev pub invariant-loop-object : goal.invariant-loop-object
