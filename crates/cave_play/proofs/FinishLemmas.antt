@@ -44,7 +44,7 @@ pub first_decided-strict : (strict : Bool) (game : Game) (guarded : Bool) (scrip
 first_decided-strict strict game guarded script items spelled none =
     first_decided-one (strict_stage strict game guarded script)
     (ap (decided_of (λ items. option_map PlayFault.Refused (ending_refusal strict items game)))
-      spelled
+    spelled
     ∙ ap (option_map PlayFault.Refused) none)
 
 -- ---- the size of what is printed

@@ -36,9 +36,11 @@ returns-in_err-extend_from_slice g c =
 pub returns-then-count-eq0 : goal.returns-then-count-eq0
 returns-then-count-eq0 g c =
     let whole =
-    Consumes-trans _ _ _ _ _ c.pieces.invariant.taken c.in-Ok.ensures.bytes.0 in
-    (_, Says-whole _ _ _ whole (c.in-Ok.ensures.bytes.1 (search rules) (search rules)),
-      (search rules, search rules))
+    Consumes-trans _ _ _ _ _ c.pieces.invariant.taken c.in-Ok.ensures.bytes.0 in (
+      _,
+      Says-whole _ _ _ whole (c.in-Ok.ensures.bytes.1 (search rules) (search rules)),
+      (search rules, search rules),
+    )
 
 pub returns-then-count-len : goal.returns-then-count-len
 returns-then-count-len g c =

@@ -288,7 +288,7 @@ returns-in_err-make_map-in-Map g c =
     c.from_residual-in_err-make_map-in-Map.ensures.1 in
     let held = g.I.Sources.held c.args.inputs.now in
     let (database, bindings, logs, one, two, last, made) =
-      c.in_err-make_map-in-Map.ensures.judged in
+    c.in_err-make_map-in-Map.ensures.judged in
     rw (exit.1, exit.2, c.in-Map.is)
     (record {
       judged = (
