@@ -37,7 +37,7 @@ use Rattle.turn_clocks.specs.Clocks.{run_clocks}
 use Rattle.turn_clocks.specs.declared.clocks.Clocks.{Clocks}
 use Rattle.cave_turn.specs.Finish.{after_end_of_turn}
 use Rattle.cave_turn.specs.Request.{read_words}
-use Rattle.cave_turn.specs.declared.request.HalfCommand.{HalfCommand}
+use Rattle.cave_turn.specs.declared.half_command.HalfCommand.{HalfCommand}
 use Rattle.cave_turn.specs.declared.request.Request.{Request}
 use Rattle.cave_turn.specs.declared.request.Understood.{Understood}
 

@@ -26,8 +26,8 @@ use Rattle.cave_verbs.specs.declared.verb.Verb.{Verb}
 use Rattle.turn_scene.specs.Effects.{in_scene}
 use Rattle.cave_turn.specs.ObjectWords.{is_verb_of, object_word}
 use Rattle.cave_turn.specs.declared.object_words.ObjectWord.{ObjectWord}
-use Rattle.cave_turn.specs.declared.request.HalfCommand.{HalfCommand}
-use Rattle.cave_turn.specs.declared.request.SaidWord.{SaidWord}
+use Rattle.cave_turn.specs.declared.half_command.HalfCommand.{HalfCommand}
+use Rattle.cave_turn.specs.declared.said_word.SaidWord.{SaidWord}
 use Rattle.cave_turn.specs.declared.request.Understood.{Understood}
 use Rattle.cave_turn.specs.declared.request.Request.{Request}
 

@@ -18,7 +18,8 @@ ghost use Rattle.cave_world.specs.declared.tables.Table.TheVariants as table;
 ghost use Rattle.cave_data.specs.CaveView.{CaveView};
 
 use crate::finish::end_turn;
-use crate::request::{HalfCommand, Request, Understood, read_words};
+use crate::half_command::HalfCommand;
+use crate::request::{Request, Understood, read_words};
 use cave_verbs::{Next, Task, Verb, act_in_scene, tell_default};
 use cave_words::{Named, Word, Words};
 use cave_world::{Ending, Knife, Magic, Out, Part, RowNotes, State, Table, WordLine};

@@ -5,9 +5,11 @@ pub mod answers;
 pub mod commands;
 pub mod dragon;
 pub mod finish;
+pub mod half_command;
 pub mod object_words;
 pub mod request;
 pub mod revival;
+pub mod said_word;
 pub mod turns;
 
 pub use base_lines::Meter;

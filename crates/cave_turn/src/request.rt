@@ -1,42 +1,22 @@
-ghost use Rattle.std.specs.Prelude.{◌≡◌, ◌==◌, Some, None};
-ghost use Rattle.cave_turn.specs.declared.request.SaidWord.{SaidWord};
+ghost use Rattle.std.specs.Prelude.{◌≡◌, Some, None};
+ghost use Rattle.cave_turn.specs.declared.said_word.SaidWord.{SaidWord};
 ghost use Rattle.turn_scene.specs.Scene.{cave_of, scene_of};
 ghost use Rattle.turn_scene.specs.Bounds.{GoesOnSaying};
-ghost use Rattle.cave_world.specs.Motions.{motion_number};
-ghost use Rattle.cave_world.specs.declared.part.Part.TheVariants as part;
-ghost use Rattle.cave_verbs.specs.Verbs.{verb_number};
-ghost use Rattle.cave_turn.specs.declared.request.Request.TheVariants as request_is;
 ghost use Rattle.turn_scene.specs.Rows.{deed, PlaysBy, act_of};
-ghost use Rattle.cave_turn.specs.Request.{half_command_of, phrase, said_word, by_object_alone};
+ghost use Rattle.cave_turn.specs.Request.{phrase, said_word, by_object_alone};
 ghost use Rattle.cave_turn.specs.Request.{word_alone, word_aloud, by_object_before, word_before};
-ghost use Rattle.cave_turn.specs.Request.{object_alone, object_before, is_of, number_of};
-ghost use Rattle.cave_world.specs.Called.{or_no_object};
+ghost use Rattle.cave_turn.specs.Request.{object_alone, object_before};
 ghost use Rattle.cave_turn.specs.Request.{pours_over, pour_in, word_entered, two_words, read_words};
-ghost use Rattle.cave_turn.specs.Request.{act_or_ask};
 
-use crate::object_words::{NamedObject, ObjectWord, is_verb_of, object_word};
+use crate::half_command::HalfCommand;
+use crate::object_words::{ObjectWord, is_verb_of, object_word};
+use crate::said_word::SaidWord;
 use cave_verbs::Verb;
 use cave_words::{Class, Meaning, Named, Word};
-use cave_world::{Motion, Part, RowNotes, Table, Talk, WordLine, or_no_object};
+use cave_world::{Motion, Part, RowNotes, Table, WordLine};
 use data_rows::Role;
 use turn_scene::{Rules, Scene, is_liquid, lake, rows};
 use world_objects::Object;
-
-/// Half a command: what was said of it before its other half.
-#[derive(Clone, Copy, Debug, PartialEq, Eq)]
-pub struct HalfCommand {
-    /// The number of the action.
-    pub verb: Option<u16>,
-    /// The object; object 0 is none.
-    pub object: Object,
-}
-
-/// A word, and what it means.
-#[derive(Clone, Copy, Debug, PartialEq, Eq)]
-pub struct SaidWord {
-    pub word: Word,
-    pub meaning: Option<Meaning>,
-}
 
 /// What a line asks for.
 #[derive(Clone, Copy, Debug, PartialEq, Eq)]
@@ -60,131 +40,6 @@ pub enum Request {
 pub struct Understood {
     pub half: HalfCommand,
     pub request: Request,
-}
-
-impl HalfCommand {
-    /// The half command that the game remembers.
-    pub fn of(talk: Talk) -> HalfCommand
-        ensures { result ≡ half_command_of talk }
-    {
-        HalfCommand {
-            verb: talk.verb,
-            object: talk.object,
-        }
-    }
-
-    /// The verb that was said before is forgotten.
-    fn forget_verb(self) -> HalfCommand
-        ensures { result ≡ record self { verb = None } }
-    {
-        HalfCommand { verb: None, ..self }
-    }
-
-    /// A word is the verb.
-    fn take_verb(self, number: u16) -> HalfCommand
-        ensures { result ≡ record self { verb = Some number } }
-    {
-        HalfCommand {
-            verb: Some(number),
-            ..self
-        }
-    }
-
-    /// An object is that of the command.
-    fn take_object(self, object: Object) -> HalfCommand
-        ensures { result ≡ record self { object = object } }
-    {
-        HalfCommand { object, ..self }
-    }
-
-    fn asks_for(self, request: Request) -> Understood
-        ensures { result ≡ record { half = self; request = request } }
-    {
-        Understood {
-            half: self,
-            request,
-        }
-    }
-
-    fn travels(self, motion: u16) -> Understood
-        ensures { result ≡ record { half = self; request = request_is.Motion motion } }
-    {
-        self.asks_for(Request::Motion(motion))
-    }
-
-    fn tells_message(self, number: u16) -> Understood
-        ensures { result ≡ record { half = self; request = request_is.Tell (part.Message number) } }
-    {
-        self.asks_for(Request::Tell(Part::Message(number)))
-    }
-
-    fn says(self, role: Role) -> Understood
-        ensures { result ≡ record { half = self; request = request_is.Tell (part.Role role) } }
-    {
-        self.asks_for(Request::Tell(Part::Role(role)))
-    }
-
-    /// The verb is done to the object, if there is one; without a verb the player is asked for it.
-    fn acts_by_verb(self, word: Word) -> Understood
-        ensures { result ≡ record {
-          half = self;
-          request = act_or_ask self.verb self.object word;
-        } }
-    {
-        match self.verb {
-            Some(verb) => self.asks_for(Request::Act(verb, self.object, word)),
-            None => self.asks_for(Request::WhatToDo(word)),
-        }
-    }
-}
-
-impl SaidWord {
-    /// Whether the word is of a class.
-    fn means(&self, class: Class) -> bool
-        ensures { result ≡ is_of class self.now }
-    {
-        match self.meaning {
-            Some(meaning) => meaning.class == class,
-            None => false,
-        }
-    }
-
-    /// The number of the word in its class.
-    fn number(&self) -> u16
-        ensures { result ≡ number_of self.now }
-    {
-        match self.meaning {
-            Some(meaning) => meaning.number,
-            None => 0,
-        }
-    }
-
-    fn of_motion(&self, motion: Motion) -> bool
-        ensures { result ≡ (number_of self.now == motion_number motion) }
-    {
-        self.number() == motion.number()
-    }
-
-    fn of_action(&self, verb: Verb) -> bool
-        ensures { result ≡ (number_of self.now == verb_number verb) }
-    {
-        self.number() == verb.number()
-    }
-
-    /// The object that the word names, with the verb that was said before.
-    fn object_named(&self, verb: Option<u16>, is_alone: bool) -> NamedObject
-        ensures { result ≡ record {
-          object = or_no_object (Some (number_of self.now));
-          verb = verb;
-          is_alone = is_alone;
-        } }
-    {
-        NamedObject {
-            object: or_no_object(Some(self.number())),
-            verb,
-            is_alone,
-        }
-    }
 }
 
 /// What the words of a line say, with what was said before.

@@ -30,7 +30,7 @@ use Rattle.cave_words.specs.declared.words.Words.{Words}
 use Rattle.cave_words.specs.declared.named.Named.TheVariants as name
 use Rattle.cave_world.specs.Sight.{dark}
 use Rattle.cave_world.specs.State.{takes_no_command}
-use Rattle.cave_turn.specs.declared.request.HalfCommand.{HalfCommand}
+use Rattle.cave_turn.specs.declared.half_command.HalfCommand.{HalfCommand}
 use Rattle.cave_turn.specs.declared.request.Request.{Request}
 use Rattle.cave_turn.specs.declared.request.Understood.{Understood}
 use Rattle.turn_clocks.specs.Clocks.{run_clocks}
