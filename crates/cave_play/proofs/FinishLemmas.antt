@@ -8,7 +8,7 @@ use Rattle.play_command.specs.declared.line.Editing.{Editing}
 use Rattle.play_command.specs.declared.views.ReportView.{ReportView}
 use Rattle.play_edits.specs.Outcome.{ItemOutcome}
 use Rattle.replay_edits.specs.Edit.{Game, game_of}
-use Rattle.play_edits.specs.Ends.{EndsOfLog, log_ends, ends_after_items, ended_view}
+use Rattle.play_edits.specs.Ends.{EndsOfLog, log_ends, ends_after_items, printed_text}
 use Rattle.replay_scripts.specs.Script.{Applied}
 use Rattle.replay_scripts.specs.declared.fault.ScriptRefusal.{ScriptRefusal}
 use Rattle.std.specs.Prelude.{option_and_then}
@@ -50,16 +50,16 @@ first_decided-strict strict game guarded script items spelled none =
 -- ---- the size of what is printed
 
 size_read : (view : EditView) (ends : EndsOfLog) (text same output : List ℕ) → text ≡ same
-    → output ≡ ended_view view ends text
-    → size_fault view (length output) ≡ size_fault view (length (ended_view view ends same))
+    → output ≡ printed_text (Some view) ends text
+    → size_fault view (length output) ≡ size_fault view (length (printed_text (Some view) ends same))
 size_read view ends text same output text_is is =
-    ap (λ t. size_fault view (length t)) (is ∙ ap (ended_view view ends) text_is)
+    ap (λ t. size_fault view (length t)) (is ∙ ap (printed_text (Some view) ends) text_is)
 
 -- what is printed has the size that is judged
 size_printed : (view : EditView) (cave : CaveView) (game : Game) (guarded : Bool)
     (items : List Applied) (outcomes : List ItemOutcome) (ends : EndsOfLog) (text output : List ℕ)
     → IsViewOf view cave game guarded items outcomes text
-    → output ≡ ended_view view (ends_after_items items game ends) text
+    → output ≡ printed_text (Some view) (ends_after_items items game ends) text
     → size_fault view (length output)
     ≡ size_fault view (bytes_to_read view guarded items game ends)
 size_printed EditView.Log cave game guarded items outcomes ends text output written is =

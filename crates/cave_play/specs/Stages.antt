@@ -25,7 +25,7 @@ use Rattle.cave_play.specs.declared.fault.PlayFault.{PlayFault}
 use Rattle.cave_play.specs.declared.output.Reported.{Reported}
 use Rattle.cave_play.specs.declared.fault.ScriptFault.{ScriptFault}
 use Rattle.play_edits.specs.Edits.{ending_refusal}
-use Rattle.play_edits.specs.Ends.{EndsOfLog, ended_view, ends_after_items, log_ends}
+use Rattle.play_edits.specs.Ends.{EndsOfLog, printed_text, ends_after_items, log_ends}
 use Rattle.play_edits.specs.Views.{text_to_read}
 use Rattle.replay_edits.specs.Edit.{Game, game_of}
 use Rattle.std.specs.Option.{option_or}
@@ -107,7 +107,7 @@ size_fault _ bytes = None
 
 abbrev pub bytes_to_read : EditView → Bool → List Applied → Game → EndsOfLog → ℕ
 bytes_to_read view guarded items game ends =
-    length (ended_view view (ends_after_items items game ends)
+    length (printed_text (Some view) (ends_after_items items game ends)
     (text_to_read view guarded items game))
 
 -- ---- stages

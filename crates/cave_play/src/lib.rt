@@ -25,7 +25,7 @@ pub use play_command::{
     CheckView, CommandFault, CoverView, EditAsked, EditView, Editing, EditsFrom, Input, Line,
     NamedFile, PlayView, ReportView, Request, TextView, What, command_line,
 };
-pub use play_edits::{EditRun, ExpectedLine, KeptLine, Refusal};
+pub use play_edits::{EditRun, ExpectedLine, LineCopy, Refusal};
 pub use play_machine::{
     CaveMachine, Piece, push_final_state, push_play, push_score, push_steps, push_walk,
 };

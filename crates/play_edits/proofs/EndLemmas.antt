@@ -13,7 +13,7 @@ use Rattle.std.proofs.lemmas.List.Sums.{AllPass-from_list_all}
 use Rattle.base_lines.proofs.FirstLines.{lines_ended, lines_unended}
 use Rattle.base_lines.specs.Line.{is_line_byte}
 use Rattle.replay_scripts.proofs.Texts.{IsTextLine}
-use Rattle.play_edits.specs.Ends.{are_alike, bytes_of_end, ended_text, ends_from, ends_in}
+use Rattle.play_edits.specs.Ends.{are_alike, bytes_of_end, with_line_ends, ends_from, ends_in}
 use Rattle.play_edits.specs.Ends.{ends_after_items, ends_left, ends_with, first_end, is_unended}
 use Rattle.play_edits.specs.Ends.{last_byte, last_end, log_ends, unlike_ends}
 use Rattle.play_edits.specs.Items.{game_after_item}
@@ -135,7 +135,7 @@ lines_more line text Return good =
 
 -- the lines of such a text are these, with any ends
 pub lines-ended : (usual : LineEnd) (unended : Bool) (ends : List LineEnd) (log : List (List ℕ))
-    → All IsTextLine log → lines (ended_text usual unended ends log) ≡ log
+    → All IsTextLine log → lines (with_line_ends usual unended ends log) ≡ log
 lines-ended usual unended ends [] good = refl
 lines-ended usual false ends (line ∷ []) good =
     ap lines (sym (append-nil (line ++ bytes_of_end (first_end usual ends))))
@@ -150,7 +150,7 @@ lines-ended usual true ends ((byte ∷ line) ∷ []) good =
     (grind (arith, common_steps)) (grind (arith, common_steps))
     ∙ ap (λ text. text ∷ []) (append-nil whole)
 lines-ended usual unended ends (line ∷ next ∷ more) good =
-    lines_more line (ended_text usual unended (drop 1 ends) (next ∷ more)) (first_end usual ends)
+    lines_more line (with_line_ends usual unended (drop 1 ends) (next ∷ more)) (first_end usual ends)
     (All-head IsTextLine line (next ∷ more) good)
     ∙ ap (λ others. line ∷ others)
     (lines-ended usual unended (drop 1 ends) (next ∷ more)
@@ -159,7 +159,7 @@ lines-ended usual unended ends (line ∷ next ∷ more) good =
 -- ---- texts whose lines all end alike
 
 abbrev pub alike_text : LineEnd → Bool → List (List ℕ) → List ℕ
-alike_text end unended log = ended_text end unended [] log
+alike_text end unended log = with_line_ends end unended [] log
 
 pub first-alike : (end : LineEnd) (ends : List LineEnd) → are_alike end ends ≡ true
     → first_end end ends ≡ end

@@ -23,7 +23,7 @@ use Rattle.replay_scripts.specs.declared.guard.Guard.{Guard}
 use Rattle.play_edits.specs.Laws.{GuardsRefuseAlone, IsMet}
 use Rattle.play_edits.specs.Items.{game_after_item, game_left}
 use Rattle.play_edits.specs.Refusal.{IsFreeCount, edit_refusal, first_unmet, group_refusal}
-use Rattle.play_edits.specs.Refusal.{expected_line, item_refusal, kept_line, log_in, other_line}
+use Rattle.play_edits.specs.Refusal.{expected_line, item_refusal, line_copy, log_in, other_line}
 use Rattle.play_edits.specs.Refusal.{other_line_in, unmet, unmet_after}
 use Rattle.play_edits.specs.declared.refusal.ExpectedLine.{ExpectedLine}
 use Rattle.play_edits.specs.declared.refusal.Refusal.TheVariants.{OtherLine}
@@ -66,7 +66,7 @@ module _ (guard : Expectation) (expected : ExpectedLine) (lines : ℕ) where
     where
       by_test : (test : Bool) → bytes_eq line guard.text ≡ test
           → cond {A = Option Refusal} test None
-          (Some (OtherLine guard.line (kept_line line) expected))
+          (Some (OtherLine guard.line (line_copy line) expected))
           ≡ None → line ≡ guard.text
       by_test true e h = (bytes_eq-Decides line guard.text).0 e
       by_test false e h = cc
@@ -85,13 +85,13 @@ module _ (guard : Expectation) (expected : ExpectedLine) (lines : ℕ) where
 
   pub differs : (line : List ℕ) → ¬ (Some line ≡ Some guard.text)
       → other_line guard expected lines (Some line)
-      ≡ Some (OtherLine guard.line (kept_line line) expected)
+      ≡ Some (OtherLine guard.line (line_copy line) expected)
   differs line other = by_test (bytes_eq line guard.text) refl
     where
       by_test : (test : Bool) → bytes_eq line guard.text ≡ test
           → cond {A = Option Refusal} test None
-          (Some (OtherLine guard.line (kept_line line) expected))
-          ≡ Some (OtherLine guard.line (kept_line line) expected)
+          (Some (OtherLine guard.line (line_copy line) expected))
+          ≡ Some (OtherLine guard.line (line_copy line) expected)
       by_test true e = absurd (other (ap Some ((bytes_eq-Decides line guard.text).0 e)))
       by_test false e = refl
 

@@ -21,7 +21,7 @@ use Rattle.play_command.specs.declared.views.EditView.TheVariants as asked
 use Rattle.replay_edits.specs.Faults.{fault_of_all}
 use Rattle.replay_edits.proofs.Inverses.{group_free}
 use Rattle.play_edits.specs.Accounts.{text_of_items}
-use Rattle.play_edits.specs.ViewText.{text_of_item}
+use Rattle.play_edits.specs.ItemWatch.{text_of_item}
 use Rattle.play_edits.specs.Outcome.{AreOutcomes, IsItemOutcome, ItemOutcome}
 use Rattle.play_edits.proofs.EditLemmas.{IsGame-after}
 use Rattle.play_edits.proofs.SayableLemmas.{all_spellable, changes_free}

@@ -1,7 +1,7 @@
 -- What is noted of items, one after another.
 use Rattle.std.proofs.Common.{◌≡◌, ℕ, ◌+◌, ◌<◌, ◌≤◌, Bool, true, false, List, [], ◌∷◌, ◌++◌, length}
 use Rattle.std.proofs.Common.{map, get_or, drop, None, Option, Some, append_assoc, append-nil}
-use Rattle.std.proofs.Common.{subst, sym, ap, ◌∙◌, refl, arith}
+use Rattle.std.proofs.Common.{subst, sym, ap, ◌∙◌, refl, arith, reverse}
 use Rattle.std.proofs.lemmas.List.{drop_all, drop_more}
 use Rattle.std.proofs.lemmas.List.Sums.{sum_by-cons}
 use Rattle.std.specs.List.{sum_by}
@@ -15,19 +15,21 @@ use Rattle.play_edits.proofs.UndoLemmas.{asked-append, asked-none, back_of-outco
 use Rattle.play_edits.proofs.EditLemmas.{item_refusal-outcome}
 use Rattle.play_edits.specs.Accounts.{text_of_items}
 use Rattle.play_edits.specs.Edits.{Applies, if_strict}
-use Rattle.play_edits.specs.Items.{game_after_item, refusal_list, refusals}
-use Rattle.play_edits.specs.Ends.{EndsOfLog, ends_after_items, ends_left}
+use Rattle.play_edits.specs.Items.{game_after_item, game_after_items, refusal_list, refusals}
+use Rattle.play_edits.specs.Ends.{EndsOfLog, ends_after_items, ends_left, printed_text, shown_ends}
 use Rattle.play_edits.specs.Outcome.{AreLeft, AreOutcomes, IsItemOutcome, ItemOutcome, lines_in}
 use Rattle.play_edits.specs.Outcome.{played_in, refusal_in}
-use Rattle.play_edits.specs.Undo.{asks_backs, back_by, backs_of, if_asked}
-use Rattle.play_edits.specs.ViewText.{guarded_before, state_before, text_after, text_at_end}
-use Rattle.play_edits.specs.ViewText.{text_of_item}
+use Rattle.play_edits.specs.ItemWatch.{asks_backs, backs_after, guarded_before, if_asked}
+use Rattle.play_edits.specs.ItemWatch.{state_before, text_after, text_at_end, text_at_start}
+use Rattle.play_edits.specs.ItemWatch.{text_of_item, view_text}
+use Rattle.play_edits.specs.Undo.{backs_of}
+use Rattle.play_edits.specs.declared.item_watch.ItemWatch.{ItemWatch}
 use Rattle.play_edits.specs.declared.refusal.Refusal.{Refusal}
 use Rattle.play_machine.specs.Machine.{Piece}
 use Rattle.play_machine.specs.declared.machine.CaveMachine.{CaveMachine}
 use Rattle.replay_edits.specs.Edit.{Game}
 use Rattle.replay_scripts.specs.Script.{Applied}
-use Rattle.replay_scripts.specs.ScriptText.{Back}
+use Rattle.replay_scripts.specs.ScriptText.{Back, groups_in}
 use Rattle.replay_scripts.specs.Views.{applied_item}
 use Rattle.replay_scripts.specs.declared.script.Item.{Item}
 
@@ -38,65 +40,112 @@ pub applied_item-drop : (items : List Item) (place : ℕ) (item : Item) → plac
     ∷ map applied_item (drop (place + 1) items)
 applied_item-drop items place item inside is = rw (drop_more items place item inside, ← is) refl
 
--- what the view and the report beside it have, what takes items back, the totals, how the lines of
--- the log end, and why items were refused
-pub record Noted : Type 0 where
+-- what a view has written of items, what takes them back, and how the lines of the log end
+pub record Seen : Type 0 where
   pub text : List ℕ
-  pub report : List ℕ
   pub backs : List (List Back)
+  pub ends : EndsOfLog
+
+abbrev pub seen_by : ItemWatch → Seen
+seen_by watch = record {
+  text = watch.text.items;
+  backs = groups_in watch.backs.items;
+  ends = shown_ends watch.ends;
+}
+
+abbrev seen : List ℕ → List (List Back) → EndsOfLog → Seen
+seen text backs ends = record { text = text; backs = backs; ends = ends }
+
+pub seen-same : (one other : Seen) → one.text ≡ other.text → one.backs ≡ other.backs
+    → one.ends ≡ other.ends → one ≡ other
+seen-same one other text backs ends =
+    ap (λ t. seen t one.backs one.ends) text ∙ ap (λ t. seen other.text t one.ends) backs
+    ∙ ap (λ t. seen other.text other.backs t) ends
+
+module _ (view : Option EditView) (guarded : Bool) (cave : CaveView) where
+  -- with what is seen of more items
+  abbrev pub seen_with : List Applied → Game → List ItemOutcome → Seen → Seen
+  seen_with items game outcomes before = record {
+    text = before.text ++ text_of_items (text_of_item view cave) items game outcomes;
+    backs = before.backs ++ if_asked view (backs_of guarded items game);
+    ends = ends_after_items items game before.ends;
+  }
+
+  -- with what is seen of one, by its outcome
+  abbrev pub seen_after : Applied → Game → ItemOutcome → Seen → Seen
+  seen_after item game outcome before = record {
+    text = before.text ++ text_of_item view cave item game outcome;
+    backs = before.backs ++ backs_after view guarded outcome (game_after_item item game).log;
+    ends = ends_left item (refusal_in outcome) before.ends;
+  }
+
+  pub seen-more : (every : ℕ) (item : Applied) (items : List Applied) (game : Game)
+      (checkpoints : List ℕ) (outcome : ItemOutcome) (outcomes : List ItemOutcome) (before : Seen)
+      → IsItemOutcome cave every item game checkpoints outcome
+      → seen_with items (game_after_item item game) outcomes (seen_after item game outcome before)
+      ≡ seen_with (item ∷ items) game (outcome ∷ outcomes) before
+  seen-more every item items game checkpoints outcome outcomes before came =
+      let next = game_after_item item game in
+      let refusal = sym (item_refusal-outcome cave every item game checkpoints outcome came) in
+      seen-same _ _ (append_assoc before.text _ _)
+      (ap (λ some. (before.backs ++ if_asked view some)
+      ++ if_asked view (backs_of guarded items next))
+      (back_of-outcome guarded cave every item game next checkpoints outcome came refl)
+      ∙ append_assoc before.backs _ _
+      ∙ ap (λ some. before.backs ++ some) (asked-append (asks_backs view) _ _))
+      (ap (λ r. ends_after_items items next (ends_left item r before.ends)) refusal)
+
+  pub seen-none : (game : Game) (before : Seen) → before ≡ seen_with [] game [] before
+  seen-none game before =
+      seen-same _ _ (sym (append-nil before.text))
+      (sym (ap (λ some. before.backs ++ some) (asked-none (asks_backs view))
+      ∙ append-nil before.backs)) refl
+
+-- what the view and the report have seen, the totals, and why items were refused
+pub record Noted : Type 0 where
+  pub view : Seen
+  pub report : Seen
   pub played : ℕ
   pub lines : ℕ
-  pub ends : EndsOfLog
   pub refused : List Refusal
 
-abbrev noted : List ℕ → List ℕ → List (List Back) → ℕ → ℕ → EndsOfLog → List Refusal → Noted
-noted text report backs played lines ends refused = record {
-  text = text;
+abbrev noted : Seen → Seen → ℕ → ℕ → List Refusal → Noted
+noted view report played lines refused = record {
+  view = view;
   report = report;
-  backs = backs;
   played = played;
   lines = lines;
-  ends = ends;
   refused = refused;
 }
 
-pub noted-same : (one other : Noted) → one.text ≡ other.text → one.report ≡ other.report
-    → one.backs ≡ other.backs → one.played ≡ other.played → one.lines ≡ other.lines
-    → one.ends ≡ other.ends → one.refused ≡ other.refused → one ≡ other
-noted-same one other text report backs played lines ends refused =
-    ap (λ t. noted t one.report one.backs one.played one.lines one.ends one.refused) text
-    ∙ ap (λ t. noted other.text t one.backs one.played one.lines one.ends one.refused) report
-    ∙ ap (λ t. noted other.text other.report t one.played one.lines one.ends one.refused) backs
-    ∙ ap (λ t. noted other.text other.report other.backs t one.lines one.ends one.refused) played
-    ∙ ap (λ t. noted other.text other.report other.backs other.played t one.ends one.refused) lines
-    ∙ ap (λ t. noted other.text other.report other.backs other.played other.lines t one.refused)
-    ends
-    ∙ ap (λ t. noted other.text other.report other.backs other.played other.lines other.ends t)
-    refused
+pub noted-same : (one other : Noted) → one.view ≡ other.view → one.report ≡ other.report
+    → one.played ≡ other.played → one.lines ≡ other.lines → one.refused ≡ other.refused
+    → one ≡ other
+noted-same one other view report played lines refused =
+    ap (λ t. noted t one.report one.played one.lines one.refused) view
+    ∙ ap (λ t. noted other.view t one.played one.lines one.refused) report
+    ∙ ap (λ t. noted other.view other.report t one.lines one.refused) played
+    ∙ ap (λ t. noted other.view other.report other.played t one.refused) lines
+    ∙ ap (λ t. noted other.view other.report other.played other.lines t) refused
 
 module _ (editing : Editing) (report : Option EditView) (cave : CaveView) where
   -- with what is noted of more items
   abbrev pub noted_with : List Applied → Game → List ItemOutcome → Noted → Noted
   noted_with items game outcomes notes = record {
-    text = notes.text ++ text_of_items (text_of_item (Some editing.view) cave) items game outcomes;
-    report = notes.report ++ text_of_items (text_of_item report cave) items game outcomes;
-    backs = notes.backs ++ if_asked editing.view (backs_of editing.guarded items game);
+    view = seen_with (Some editing.view) editing.guarded cave items game outcomes notes.view;
+    report = seen_with report editing.guarded cave items game outcomes notes.report;
     played = notes.played + sum_by played_in outcomes;
     lines = notes.lines + sum_by lines_in outcomes;
-    ends = ends_after_items items game notes.ends;
     refused = notes.refused ++ refusals items game;
   }
 
   -- with what is noted of one, by its outcome
   abbrev pub noted_after : Applied → Game → ItemOutcome → Noted → Noted
   noted_after item game outcome notes = record {
-    text = notes.text ++ text_of_item (Some editing.view) cave item game outcome;
-    report = notes.report ++ text_of_item report cave item game outcome;
-    backs = notes.backs ++ if_asked editing.view
-        (back_by editing.guarded outcome (game_after_item item game).log);
+    view = seen_after (Some editing.view) editing.guarded cave item game outcome notes.view;
+    report = seen_after report editing.guarded cave item game outcome notes.report;
     played = notes.played + played_in outcome;
     lines = notes.lines + lines_in outcome;
-    ends = ends_left item (refusal_in outcome) notes.ends;
     refused = notes.refused ++ refusal_list (refusal_in outcome);
   }
 
@@ -107,18 +156,14 @@ module _ (editing : Editing) (report : Option EditView) (cave : CaveView) where
       ≡ noted_with (item ∷ items) game (outcome ∷ outcomes) notes
   noted-more every item items game checkpoints outcome outcomes notes came =
       let next = game_after_item item game in
-      let view = editing.view in
-      let guarded = editing.guarded in
       let refusal = sym (item_refusal-outcome cave every item game checkpoints outcome came) in
-      noted-same _ _ (append_assoc notes.text _ _) (append_assoc notes.report _ _)
-      (ap (λ some. (notes.backs ++ if_asked view some)
-      ++ if_asked view (backs_of guarded items next))
-      (back_of-outcome guarded cave every item game next checkpoints outcome came refl)
-      ∙ append_assoc notes.backs _ _
-      ∙ ap (λ some. notes.backs ++ some) (asked-append (asks_backs view) _ _))
+      noted-same _ _
+      (seen-more (Some editing.view) editing.guarded cave every item items game checkpoints outcome
+      outcomes notes.view came)
+      (seen-more report editing.guarded cave every item items game checkpoints outcome outcomes
+      notes.report came)
       (omega (arith, sum_by-cons played_in outcome outcomes))
       (omega (arith, sum_by-cons lines_in outcome outcomes))
-      (ap (λ r. ends_after_items items next (ends_left item r notes.ends)) refusal)
       (append_assoc notes.refused _ _
       ∙ ap (λ r. notes.refused ++ (refusal_list r ++ refusals items next)) refusal)
 
@@ -177,34 +222,60 @@ module _ (editing : Editing) (report : Option EditView) (cave : CaveView) where
       subst (λ some. Leads every all some first now opened here begun notes) none so_far in
       let (outcomes, are, same) = whole [] tt in
       let here_is : notes ≡ noted_with [] now [] notes =
-      noted-same _ _ (sym (append-nil notes.text)) (sym (append-nil notes.report))
-      (sym (ap (λ some. notes.backs ++ some) (asked-none (asks_backs editing.view))
-      ∙ append-nil notes.backs))
-      (omega arith) (omega arith) refl (sym (append-nil notes.refused)) in
+      noted-same _ _ (seen-none (Some editing.view) editing.guarded cave now notes.view)
+      (seen-none report editing.guarded cave now notes.report) (omega arith) (omega arith)
+      (sym (append-nil notes.refused)) in
       (outcomes, are, here_is ∙ same)
 
--- what a view writes of an item, by what it kept before
-pub kept-text : (view was now : Option EditView) (cave there after : CaveView) (item : Applied)
-    (game next : Game) (outcome : ItemOutcome) (state : Option State)
-    (guarded before text longer : List ℕ) → was ≡ view → now ≡ was → there ≡ cave → after ≡ there
-    → next ≡ game_after_item item game → text ≡ before → state ≡ state_before was there game
-    → guarded ≡ guarded_before was item game
-    → longer ≡ text ++ text_after now after item outcome state guarded next
-    → longer ≡ before ++ text_of_item view cave item game outcome
-kept-text view was now cave there after item game next outcome state guarded before text longer a b c
-    d e f g h grown =
-    grown ∙ rw (f, g, h, b, a, d, c, e) refl
+-- what a watch has seen after an item, by what it kept before it
+pub sees-item : (view : Option EditView) (guarded : Bool) (cave there : CaveView) (item : Applied)
+    (game next : Game) (outcome : ItemOutcome) (old kept new : ItemWatch)
+    → old.view ≡ view → old.guarded ≡ guarded → kept.view ≡ old.view → kept.guarded ≡ old.guarded
+    → there ≡ cave → next ≡ game_after_item item game → kept.text.items ≡ old.text.items
+    → kept.state ≡ state_before old.view cave game
+    → kept.group.items ≡ guarded_before old.view item game → kept.backs ≡ old.backs
+    → kept.ends ≡ old.ends
+    → new.text.items ≡ kept.text.items
+    ++ text_after kept.view there item outcome kept.state kept.group.items next
+    → groups_in new.backs.items ≡ groups_in kept.backs.items
+    ++ backs_after kept.view kept.guarded outcome next.log
+    → shown_ends new.ends ≡ ends_left item (refusal_in outcome) (shown_ends kept.ends)
+    → seen_by new ≡ seen_after view guarded cave item game outcome (seen_by old)
+sees-item view guarded cave there item game next outcome old kept new a b c d e f text state group
+    backs ends grown more left =
+    seen-same _ _
+    (grown ∙ rw (text, state, group, c, a, e, f) refl)
+    (more ∙ rw (backs, c, d, a, b, f) refl)
+    (left ∙ ap (λ l. ends_left item (refusal_in outcome) (shown_ends l)) ends)
 
--- and what it has written after all items
-pub end-text : (view was : Option EditView) (cave there : CaveView) (game now : Game)
-    (played plays lines counts : ℕ) (backs taken : List (List Back))
-    (start begun told items text : List ℕ) → was ≡ view → there ≡ cave → now ≡ game
-    → plays ≡ played → counts ≡ lines → taken ≡ backs → begun ≡ start → told ≡ begun ++ items
-    → text ≡ told ++ text_at_end was there now plays counts taken
-    → text ≡ start ++ (items ++ text_at_end view cave game played lines backs)
-end-text view was cave there game now played plays lines counts backs taken start begun told items
-    text a b c d e f g h is =
-    is ∙ rw (h, g, a, b, c, d, e, f) (append_assoc start items _)
+-- and what it prints after all items
+pub prints : (view : Option EditView) (guarded : Bool) (cave : CaveView) (items : List Applied)
+    (game : Game) (outcomes : List ItemOutcome) (ends : EndsOfLog) (watch : ItemWatch)
+    (begun : Seen) (there : CaveView) (now : Game) (played lines : ℕ) (text : List ℕ)
+    → watch.view ≡ view → there ≡ cave → now ≡ game_after_items items game
+    → played ≡ sum_by played_in outcomes → lines ≡ sum_by lines_in outcomes
+    → begun.text ≡ text_at_start view → begun.backs ≡ [] → begun.ends ≡ ends
+    → seen_by watch ≡ seen_with view guarded cave items game outcomes begun
+    → text ≡ printed_text watch.view (shown_ends watch.ends)
+    (watch.text.items ++ text_at_end watch.view there now played lines
+    (reverse (groups_in watch.backs.items)))
+    → text ≡ printed_text view (ends_after_items items game ends)
+    (view_text view guarded cave items game outcomes)
+prints view guarded cave items game outcomes ends watch begun there now played lines text a b c d e f
+    g h saw is =
+    is ∙ rw (
+      ap (λ (s : Seen). s.text) saw,
+      ap (λ (s : Seen). s.backs) saw,
+      ap (λ (s : Seen). s.ends) saw,
+      a,
+      b,
+      c,
+      d,
+      e,
+      f,
+      g,
+      h,
+    ) (ap (printed_text view (ends_after_items items game ends)) (append_assoc (text_at_start view) _ _))
 
 -- ---- strict runs
 

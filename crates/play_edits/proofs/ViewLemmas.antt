@@ -1,5 +1,5 @@
 -- What is written of items, by the view, and what is made of a log by the items of a script.
-use Rattle.std.proofs.Common.{◌≡◌, ℕ, List, length, reverse, None, Ok, Option, Some, ap, sym, ◌∙◌}
+use Rattle.std.proofs.Common.{◌≡◌, ℕ, List, length, None, Ok, Option, Some, ap, sym, ◌∙◌}
 use Rattle.std.proofs.Common.{refl, append-nil, option_map, Bool, [], ◌∷◌, ◌++◌}
 use Rattle.std.specs.Str.Lines.{lines}
 use Rattle.cave_data.specs.CaveView.{CaveView}
@@ -14,10 +14,10 @@ use Rattle.play_command.specs.declared.views.EditView.{EditView}
 use Rattle.play_command.specs.declared.views.EditView.TheVariants.{Transcript, Play, Log, Reports}
 use Rattle.play_command.specs.declared.views.EditView.TheVariants.{Steps, Score, FinalState, Table}
 use Rattle.play_command.specs.declared.views.EditView.TheVariants.{Undo, Guarded, Walk}
-use Rattle.play_edits.specs.Edits.{IsMade, kept_backs}
-use Rattle.play_edits.specs.Ends.{EndsOfLog}
-use Rattle.play_edits.specs.Undo.{backs_of, if_asked}
-use Rattle.play_edits.specs.ViewText.{text_of_item, view_text}
+use Rattle.play_edits.specs.Edits.{IsMade}
+use Rattle.play_edits.specs.Ends.{EndsOfLog, printed_text}
+use Rattle.play_edits.specs.ItemWatch.{text_of_item, view_text}
+use Rattle.play_edits.specs.Undo.{undo_text}
 use Rattle.play_edits.specs.declared.items.MadeEdit.{MadeEdit}
 use Rattle.play_machine.specs.Machine.{Piece}
 use Rattle.play_machine.specs.declared.machine.CaveMachine.{CaveMachine}
@@ -37,7 +37,6 @@ use Rattle.play_tables.specs.ItemRow.{item_head_row}
 use Rattle.play_machine.specs.FinalState.{final_state_text, score_text}
 use Rattle.play_machine.specs.Moments.{steps_text, walk_text}
 use Rattle.play_machine.specs.Transcript.{play_text}
-use Rattle.replay_scripts.specs.ScriptText.{Back, script_text}
 
 -- what is written of items for a transcript are their reports
 told-reports : (cave : CaveView) (every : ℕ) (items : List Applied) (game : Game)
@@ -66,7 +65,7 @@ told-nothing tell none (item ∷ items) game (outcome ∷ outcomes) =
 
 -- what is written of items, and then what is written after them, is what the view asks for
 module _ (cave : CaveView) (every : ℕ) (items : List Applied) (game : Game) (guarded : Bool)
-    (opened : List ℕ) (outcomes : List ItemOutcome) (backs : List (List Back))
+    (opened : List ℕ) (outcomes : List ItemOutcome)
     (came : AreOutcomes cave every items game opened outcomes) (good : IsGame game) where
   abbrev after : Game
   after = game_after_items items game
@@ -79,39 +78,40 @@ module _ (cave : CaveView) (every : ℕ) (items : List Applied) (game : Game) (g
       ap (λ t. t ++ end) (told-nothing (text_of_item (Some view) cave) none items game outcomes)
 
   pub told-whole : (view : EditView) (text : List ℕ)
-      → (view ≡ Undo → backs ≡ reverse (backs_of guarded items game))
-      → text ≡ view_text (Some view) cave items game outcomes backs
+      → text ≡ view_text (Some view) guarded cave items game outcomes
       → IsViewOf view cave game guarded items outcomes text
-  told-whole Transcript text taken is =
+  told-whole Transcript text is =
       is
       ∙ ap (λ t. t ++ play_text cave after)
       (told-reports cave every items game opened outcomes came)
-  told-whole Play text taken is = is ∙ nothing Play (λ _ _ _. refl) (play_text cave after)
-  told-whole Steps text taken is = is ∙ nothing Steps (λ _ _ _. refl) (steps_text cave after)
-  told-whole Walk text taken is = is ∙ nothing Walk (λ _ _ _. refl) (walk_text cave after)
-  told-whole Score text taken is = is ∙ nothing Score (λ _ _ _. refl) (score_text cave after)
-  told-whole FinalState text taken is =
+  told-whole Play text is = is ∙ nothing Play (λ _ _ _. refl) (play_text cave after)
+  told-whole Steps text is = is ∙ nothing Steps (λ _ _ _. refl) (steps_text cave after)
+  told-whole Walk text is = is ∙ nothing Walk (λ _ _ _. refl) (walk_text cave after)
+  told-whole Score text is = is ∙ nothing Score (λ _ _ _. refl) (score_text cave after)
+  told-whole FinalState text is =
       is ∙ nothing FinalState (λ _ _ _. refl) (final_state_text cave after)
-  told-whole Log text taken is =
+  told-whole Log text is =
       let written = is ∙ nothing Log (λ _ _ _. refl) (log_text after.log) in
       record {
         written = written;
         reads_back = ap lines written
             ∙ reads_back after.log (IsGame-after_all items game good).lines;
       }
-  told-whole Reports text taken is = is
-  told-whole Table text taken is = is ∙ ap (λ t. item_head_row ++ t) (append-nil _)
-  told-whole Guarded text taken is =
+  told-whole Reports text is = is
+  told-whole Table text is = is ∙ ap (λ t. item_head_row ++ t) (append-nil _)
+  told-whole Guarded text is =
       guarded-whole items game text good
       (is ∙ append-nil _ ∙ told-guarded cave every items game opened outcomes came)
-  told-whole Undo text taken is =
+  told-whole Undo text is =
       undo-whole guarded items game text good
-      (is ∙ nothing Undo (λ _ _ _. refl) (script_text backs) ∙ ap script_text (taken refl))
+      (is ∙ nothing Undo (λ _ _ _. refl) (undo_text guarded items game))
 
--- no report beside a view has what takes items back
-not_undo : (view : ReportView) → edit_view_of view ≡ Undo → ⊥
-not_undo ReportView.Reports is = cc
-not_undo ReportView.Table is = cc
+-- a report has the ends that it was written with
+pub report-printed : (report : Option ReportView) (ends : EndsOfLog) (text : List ℕ)
+    → printed_text (option_map edit_view_of report) ends text ≡ text
+report-printed None ends text = refl
+report-printed (Some ReportView.Reports) ends text = refl
+report-printed (Some ReportView.Table) ends text = refl
 
 -- of the items of a script that were applied to what a session held
 module _ (old : SessionView CaveMachine Piece State) (editing : Editing) (script : List ℕ)
@@ -125,11 +125,9 @@ module _ (old : SessionView CaveMachine Piece State) (editing : Editing) (script
     cave = old.machine.rules.cave.now
 
     text_made : (view : EditView) (text : List ℕ)
-        → (view ≡ Undo → editing.view ≡ Undo)
-        → text ≡ view_text (Some view) cave items old.game is.outcomes
-        (kept_backs editing items old.game)
+        → text ≡ view_text (Some view) editing.guarded cave items old.game is.outcomes
         → IsEditOf view cave old.every old.game editing.guarded script made.run.played text
-    text_made view text asked told = record {
+    text_made view text told = record {
       items = items;
       spelled = spelled;
       checkpoints = old.checkpoints;
@@ -138,32 +136,28 @@ module _ (old : SessionView CaveMachine Piece State) (editing : Editing) (script
       came = is.came;
       played_is = is.played;
       written = told-whole cave old.every items old.game editing.guarded old.checkpoints
-          is.outcomes _ is.came good view text
-          (λ undo. ap (λ v. reverse (if_asked v (backs_of editing.guarded items old.game)))
-          (asked undo)) told;
+          is.outcomes is.came good view text told;
     }
 
     report_made : (beside : Option ReportView) (text : List ℕ)
-        → text ≡ view_text (option_map edit_view_of beside) cave items old.game is.outcomes
-        (kept_backs editing items old.game)
+        → text ≡ view_text (option_map edit_view_of beside) editing.guarded cave items old.game
+        is.outcomes
         → IsSideReportOf beside cave old.every old.game editing.guarded script made.run.played text
     report_made None text told =
         told ∙ append-nil _
         ∙ told-nothing (text_of_item None cave) (λ _ _ _. refl) items old.game is.outcomes
-    report_made (Some view) text told =
-        text_made (edit_view_of view) text (λ undo. absurd (not_undo view undo)) told
+    report_made (Some view) text told = text_made (edit_view_of view) text told
 
     pub log_made : IsMadeOf editing.view report cave old.every old.game editing.guarded script ends
         made
     unfolding text_made
     log_made = (
       record {
-        text = view_text (Some editing.view) cave items old.game is.outcomes
-            (kept_backs editing items old.game);
-        edit = text_made editing.view _ (λ undo. undo) refl;
+        text = view_text (Some editing.view) editing.guarded cave items old.game is.outcomes;
+        edit = text_made editing.view _ refl;
         printed = is.text;
       },
       is.refused ∙ ap (refusals_of old.game) (sym read),
-      report_made report made.run.report.items is.beside,
+      report_made report made.run.report.items is.reported,
       is.seed ∙ ap (seed_after old.game) (sym read),
     )

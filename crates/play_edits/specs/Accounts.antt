@@ -13,9 +13,9 @@ use Rattle.play_tables.specs.ItemRow.{met_column, accepted_row, item_head_row, r
 use Rattle.play_state_text.specs.Words.{ending_word}
 use Rattle.play_edits.specs.Items.{game_after_item}
 use Rattle.play_edits.specs.Outcome.{ItemOutcome, lines_in, played_in, standing_of}
-use Rattle.play_edits.specs.Refusal.{refusal_line, refusal_number, shown_kept_line}
+use Rattle.play_edits.specs.Refusal.{refusal_line, refusal_number, shown_copy}
 use Rattle.play_edits.specs.declared.outcome.Standing.{Standing}
-use Rattle.play_edits.specs.declared.refusal.KeptLine.{KeptLine}
+use Rattle.play_edits.specs.declared.refusal.LineCopy.{LineCopy}
 use Rattle.play_edits.specs.declared.refusal.ExpectedLine.{ExpectedLine}
 use Rattle.play_edits.specs.declared.refusal.ExpectedLine.TheVariants.{At, Impossible, Nowhere}
 use Rattle.play_edits.specs.declared.refusal.Refusal.{Refusal}
@@ -29,8 +29,8 @@ abbrev pub edit_words : EditFault → List ℕ
 edit_words EditFault.EmptyGroup = codes "an empty group: put an edit between `begin` and `end`"
 edit_words fault = edit_fault_text fault
 
-abbrev pub expected_words : KeptLine → List ℕ
-expected_words line = codes "; expected " ++ shown_kept_line line
+abbrev pub expected_words : LineCopy → List ℕ
+expected_words line = codes "; expected " ++ shown_copy line
 
 -- the line that a guard expects, and where the log has it
 abbrev pub expected_text : ExpectedLine → List ℕ
@@ -45,7 +45,7 @@ refusal_said (Edit at fault) = edit_words fault
 refusal_said (NoLine at lines expected) =
     (codes "no line: the log has " ++ decimal lines) ++ expected_text expected
 refusal_said (OtherLine at line expected) =
-    codes "another line: " ++ (shown_kept_line line ++ expected_text expected)
+    codes "another line: " ++ (shown_copy line ++ expected_text expected)
 
 -- how a game has ended, if it has
 abbrev pub ending_text : Option Ending → List ℕ

@@ -1,6 +1,6 @@
 -- What a session holds after an item of a script, and what items make of what it held.
 use Rattle.std.specs.Prelude.{◌≡◌, Bool, List, Option, None, Some, if◌then◌else◌, slice_get, IfOk}
-use Rattle.std.specs.Prelude.{option_map, reverse}
+use Rattle.std.specs.Prelude.{option_map}
 use Rattle.std.specs.List.{sum_by}
 use Rattle.cave_replay.specs.Session.{SessionView}
 use Rattle.cave_world.specs.declared.state.State.{State}
@@ -8,10 +8,9 @@ use Rattle.play_command.specs.Asked.{edit_view_of}
 use Rattle.play_command.specs.declared.views.ReportView.{ReportView}
 use Rattle.play_command.specs.declared.line.Editing.{Editing}
 use Rattle.play_edits.specs.Items.{game_after_item, game_after_items, refusals}
-use Rattle.play_edits.specs.Ends.{EndsOfLog, ended_view, ends_after_items}
+use Rattle.play_edits.specs.Ends.{EndsOfLog, printed_text, ends_after_items}
 use Rattle.play_edits.specs.Outcome.{AreLeft, AreOutcomes, IsItemOutcome, ItemOutcome, played_in}
-use Rattle.play_edits.specs.Undo.{backs_of, if_asked}
-use Rattle.play_edits.specs.ViewText.{view_text}
+use Rattle.play_edits.specs.ItemWatch.{view_text}
 use Rattle.play_edits.specs.declared.items.MadeEdit.{MadeEdit}
 use Rattle.play_edits.specs.declared.refusal.Refusal.{Refusal}
 use Rattle.play_machine.specs.Machine.{HoldsGame, Piece}
@@ -19,7 +18,6 @@ use Rattle.play_machine.specs.declared.machine.CaveMachine.{CaveMachine}
 use Rattle.replay_edits.specs.Edit.{Game, changes_of}
 use Rattle.replay_edits.specs.Faults.{fault_of_all}
 use Rattle.replay_scripts.specs.Script.{Applied}
-use Rattle.replay_scripts.specs.ScriptText.{Back}
 
 -- an item was applied to what a session held, with this outcome, and what takes it back is accepted
 pub record Applies (item : Applied) (old new : SessionView CaveMachine Piece State)
@@ -32,11 +30,6 @@ pub record Applies (item : Applied) (old new : SessionView CaveMachine Piece Sta
   pub back_free : IfOk outcome (λ done.
       fault_of_all (changes_of done.inverse.items) new.game.log 0 ≡ None)
 
--- the changes that are kept of items, the last one first
-abbrev pub kept_backs : Editing → List Applied → Game → List (List Back)
-kept_backs editing items game =
-    reverse (if_asked editing.view (backs_of editing.guarded items game))
-
 -- items were applied to what a session held, over a log whose lines end like this, and this is what
 -- they made
 pub record IsMade (editing : Editing) (report : Option ReportView) (items : List Applied)
@@ -44,11 +37,11 @@ pub record IsMade (editing : Editing) (report : Option ReportView) (items : List
   pub outcomes : List ItemOutcome
   pub came : AreOutcomes old.machine.rules.cave.now old.every items old.game old.checkpoints
       outcomes
-  pub text : made.text.items ≡ ended_view editing.view (ends_after_items items old.game ends)
-      (view_text (Some editing.view) old.machine.rules.cave.now items old.game outcomes
-      (kept_backs editing items old.game))
-  pub beside : made.run.report.items ≡ view_text (option_map edit_view_of report)
-      old.machine.rules.cave.now items old.game outcomes (kept_backs editing items old.game)
+  pub text : made.text.items ≡ printed_text (Some editing.view) (ends_after_items items old.game ends)
+      (view_text (Some editing.view) editing.guarded old.machine.rules.cave.now items old.game
+      outcomes)
+  pub reported : made.run.report.items ≡ view_text (option_map edit_view_of report) editing.guarded
+      old.machine.rules.cave.now items old.game outcomes
   pub played : made.run.played ≡ sum_by played_in outcomes
   pub refused : made.run.refused.items ≡ refusals items old.game
   pub seed : made.run.seed ≡ (game_after_items items old.game).seed

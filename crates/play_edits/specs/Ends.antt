@@ -47,10 +47,6 @@ end_at usual ends place = unwrap_or (slice_get ends place) usual
 abbrev pub first_end : LineEnd → List LineEnd → LineEnd
 first_end usual ends = end_at usual ends 0
 
--- that of the line with a number, from 1
-abbrev pub end_of_line : LineEnd → List LineEnd → ℕ → LineEnd
-end_of_line usual ends number = end_at usual ends (number - 1)
-
 -- ---- the text of lines and their ends
 
 -- the bytes of an end: a line feed, by itself or after a carriage return
@@ -65,12 +61,12 @@ last_end true [] end = bytes_of_end end
 last_end true (byte ∷ line) end = []
 
 -- lines, each with its own end, or with the usual one if there is none for it
-abbrev pub ended_text : LineEnd → Bool → List LineEnd → List (List ℕ) → List ℕ
-ended_text usual unended ends [] = []
-ended_text usual unended ends (line ∷ []) = line ++ last_end unended line (first_end usual ends)
-ended_text usual unended ends (line ∷ next ∷ more) =
+abbrev pub with_line_ends : LineEnd → Bool → List LineEnd → List (List ℕ) → List ℕ
+with_line_ends usual unended ends [] = []
+with_line_ends usual unended ends (line ∷ []) = line ++ last_end unended line (first_end usual ends)
+with_line_ends usual unended ends (line ∷ next ∷ more) =
     (line ++ bytes_of_end (first_end usual ends))
-    ++ ended_text usual unended (drop 1 ends) (next ∷ more)
+    ++ with_line_ends usual unended (drop 1 ends) (next ∷ more)
 
 -- ---- a log that is edited
 
@@ -122,7 +118,7 @@ abbrev pub ends_after_changes : LineEnd → List LineEnd → Applied → ℕ →
 ends_after_changes usual script item at [] ends = ends
 ends_after_changes usual script item at (change ∷ changes) ends =
     ends_after_changes usual script item (at + 1) changes
-    (ends_after change (end_of_line usual script (line_of_refusal item at)) ends)
+    (ends_after change (end_at usual script (line_of_refusal item at - 1)) ends)
 
 -- if all lines end alike, they go on to end like that
 abbrev pub each_after : LineEnd → List LineEnd → Applied → List LineEnd → List LineEnd
@@ -147,8 +143,8 @@ ends_after_items (item ∷ items) game ends =
 
 -- What is printed of the text that a view made. A line of a log has its own end. A line of the
 -- script has the usual one.
-abbrev pub ended_view : EditView → EndsOfLog → List ℕ → List ℕ
-ended_view EditView.Log ends text = ended_text ends.usual ends.unended ends.each (lines text)
-ended_view EditView.Undo ends text = ended_text ends.usual false [] (lines text)
-ended_view EditView.Guarded ends text = ended_text ends.usual false [] (lines text)
-ended_view _ ends text = text
+abbrev pub printed_text : Option EditView → EndsOfLog → List ℕ → List ℕ
+printed_text (Some EditView.Log) ends text = with_line_ends ends.usual ends.unended ends.each (lines text)
+printed_text (Some EditView.Undo) ends text = with_line_ends ends.usual false [] (lines text)
+printed_text (Some EditView.Guarded) ends text = with_line_ends ends.usual false [] (lines text)
+printed_text _ ends text = text

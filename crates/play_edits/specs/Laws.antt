@@ -6,7 +6,7 @@ use Rattle.replay_edits.specs.Edit.{Change, Game}
 use Rattle.replay_edits.specs.Faults.{fault_of_all, log_after_all}
 use Rattle.base_lines.specs.Line.{is_line}
 use Rattle.play_edits.specs.Items.{game_after_item, game_after_items, reports}
-use Rattle.play_edits.specs.Refusal.{IsNearestAt, IsNowhere, expected_line, kept_line}
+use Rattle.play_edits.specs.Refusal.{IsNearestAt, IsNowhere, expected_line, line_copy}
 use Rattle.play_edits.specs.declared.refusal.ExpectedLine.{ExpectedLine}
 use Rattle.play_edits.specs.declared.refusal.ExpectedLine.TheVariants.{At, Impossible, Nowhere}
 
@@ -32,9 +32,9 @@ GuardsRefuseAlone =
 abbrev pub IsWhere : Expectation → List (List ℕ) → ExpectedLine → Type 0
 IsWhere guard log Impossible = is_line guard.text ≡ false
 IsWhere guard log (Nowhere line) =
-    (line ≡ kept_line guard.text) × IsNowhere guard.text log
+    (line ≡ line_copy guard.text) × IsNowhere guard.text log
 IsWhere guard log (At line place) =
-    (line ≡ kept_line guard.text) × IsNearestAt guard.place guard.text log place
+    (line ≡ line_copy guard.text) × IsNearestAt guard.place guard.text log place
 
 abbrev pub NearestLinesAreNamed : Type 0
 NearestLinesAreNamed =

@@ -4,7 +4,7 @@ pub mod Laws
 pub mod Items
 pub mod Outcome
 pub mod Refusal
-pub mod ViewText
+pub mod ItemWatch
 pub mod Views
 pub mod Undo
 pub mod Ends

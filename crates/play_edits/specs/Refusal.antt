@@ -11,7 +11,7 @@ use Rattle.replay_edits.specs.Faults.{fault_of_all, group_fault, log_after_all}
 use Rattle.replay_edits.specs.declared.fault.EditFault.{EditFault}
 use Rattle.replay_edits.specs.declared.fault.GroupFault.{GroupFault}
 use Rattle.replay_scripts.specs.Script.{Applied, Expectation, line_of_refusal}
-use Rattle.play_edits.specs.declared.refusal.KeptLine.{KeptLine}
+use Rattle.play_edits.specs.declared.refusal.LineCopy.{LineCopy}
 use Rattle.play_edits.specs.declared.refusal.ExpectedLine.{ExpectedLine}
 use Rattle.play_edits.specs.declared.refusal.ExpectedLine.TheVariants.{At, Impossible, Nowhere}
 use Rattle.play_edits.specs.declared.refusal.Refusal.{Refusal}
@@ -27,12 +27,12 @@ MAX_KEPT = 255
 abbrev pub filled : List ℕ → List ℕ
 filled text = text ++ replicate (MAX_KEPT - length text) 0
 
-abbrev pub kept_line : List ℕ → KeptLine
-kept_line line =
+abbrev pub line_copy : List ℕ → LineCopy
+line_copy line =
     record { bytes = filled (take MAX_KEPT line); len = length (take MAX_KEPT line) }
 
-abbrev pub shown_kept_line : KeptLine → List ℕ
-shown_kept_line kept = take kept.len kept.bytes
+abbrev pub shown_copy : LineCopy → List ℕ
+shown_copy kept = take kept.len kept.bytes
 
 -- ---- the number of a refusal
 
@@ -104,8 +104,8 @@ IsNearest place text log (Some found) = IsNearestAt place text log found
 
 -- what a log may have, by the place where it has it
 abbrev pub expected_by : List ℕ → Option ℕ → ExpectedLine
-expected_by text None = Nowhere (kept_line text)
-expected_by text (Some at) = At (kept_line text) at
+expected_by text None = Nowhere (line_copy text)
+expected_by text (Some at) = At (line_copy text) at
 
 -- the line that a guard expects, with the place nearest to the guard's where the log has it
 unfoldable pub expected_line : Expectation → List (List ℕ) → ExpectedLine
@@ -130,7 +130,7 @@ abbrev pub other_line : Expectation → ExpectedLine → ℕ → Option (List �
 other_line guard expected lines None = Some (NoLine guard.line lines expected)
 other_line guard expected lines (Some line) =
     if bytes_eq line guard.text then None
-    else Some (OtherLine guard.line (kept_line line) expected)
+    else Some (OtherLine guard.line (line_copy line) expected)
 
 abbrev pub other_line_in : Expectation → List (List ℕ) → Option Refusal
 other_line_in guard log =

@@ -2,7 +2,6 @@
 -- them, each edit with a guard of the line at its place.
 use Rattle.std.specs.Prelude.{ℕ, Bool, true, false, List, [], ◌∷◌, ◌++◌, map, reverse, Option, None}
 use Rattle.std.specs.Prelude.{Some, slice_get, option_map, Ok, Err, if◌then◌else◌, is_none}
-use Rattle.play_command.specs.declared.views.EditView.{EditView}
 use Rattle.replay_edits.specs.Edit.{Change, Game, changes_of, inverses_of, log_after, inserts}
 use Rattle.replay_edits.specs.Edit.{deletes, replaces, reseeds}
 use Rattle.replay_edits.specs.LineText.{LineText}
@@ -52,14 +51,6 @@ backs_by true changes log = with_guards changes log
 abbrev pub back_by : Bool → ItemOutcome → List (List ℕ) → List (List Back)
 back_by guarded (Ok done) log = backs_by guarded (changes_of done.inverse.items) log ∷ []
 back_by guarded (Err refusal) log = []
-
--- what takes items back is kept if the view asks for it
-abbrev pub asks_backs : EditView → Bool
-asks_backs EditView.Undo = true
-asks_backs _ = false
-
-abbrev pub if_asked : EditView → List (List Back) → List (List Back)
-if_asked view backs = if asks_backs view then backs else []
 
 -- the changes that take an item back, unless it was refused
 abbrev pub back_if : Option Refusal → List Back → List (List Back)

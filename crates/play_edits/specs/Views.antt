@@ -10,7 +10,7 @@ use Rattle.play_command.specs.declared.views.ReportView.{ReportView}
 use Rattle.play_command.specs.declared.views.EditView.{EditView}
 use Rattle.play_edits.specs.Accounts.{accounts, table_text}
 use Rattle.play_edits.specs.Edits.{ending_refusal}
-use Rattle.play_edits.specs.Ends.{EndsOfLog, ended_view, ends_after_items, log_ends}
+use Rattle.play_edits.specs.Ends.{EndsOfLog, printed_text, ends_after_items, log_ends}
 use Rattle.play_edits.specs.Undo.{guarded_text, undo_text}
 use Rattle.play_edits.specs.Items.{game_after_items, refusals, reports}
 use Rattle.play_edits.specs.Outcome.{AreOutcomes, ItemOutcome, played_in}
@@ -106,7 +106,7 @@ pub record IsEndedEditOf (view : EditView) (cave : CaveView) (every : ℕ) (game
     : Type 0 where
   pub text : List ℕ
   pub edit : IsEditOf view cave every game guarded script played text
-  pub printed : output ≡ ended_view view (ends_after_items edit.items game before) text
+  pub printed : output ≡ printed_text (Some view) (ends_after_items edit.items game before) text
 
 -- this many lines were played for the items of the script that edits the log, and this is printed
 abbrev pub IsEndedEdit : EditView → CaveView → ℕ → List ℕ → ℕ → Bool → List ℕ → ℕ → List ℕ → Type 0

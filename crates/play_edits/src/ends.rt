@@ -5,15 +5,13 @@ ghost use Rattle.std.specs.Prelude.{◌≡◌, IfOk, OnOk};
 ghost use Rattle.std.specs.Str.Lines.{lines};
 ghost use Rattle.replay_edits.specs.Edit.{change_of};
 ghost use Rattle.replay_scripts.specs.Views.{applied_item};
-ghost use Rattle.play_edits.specs.Ends.{are_alike, bytes_of_end, end_at, ended_text, ended_view};
-ghost use Rattle.play_edits.specs.Ends.{ends_after, ends_in, ends_left, is_unended, log_ends};
-ghost use Rattle.play_edits.specs.Ends.{shown_ends};
+ghost use Rattle.play_edits.specs.Ends.{are_alike, bytes_of_end, end_at, with_line_ends, ends_after};
+ghost use Rattle.play_edits.specs.Ends.{ends_in, ends_left, is_unended, log_ends, shown_ends};
 ghost use Rattle.play_edits.specs.Outcome.{refusal_in};
 
 use crate::refusal::Refusal;
 use base_lines::split_line;
 use cave_replay::GroupReport;
-use play_command::EditView;
 use replay_edits::Edit;
 use replay_scripts::Item;
 use std::alloc::{AllocError, Global};
@@ -151,7 +149,7 @@ fn bytes_of_end(end: LineEnd) -> &'static [u8]
 /// The lines of a text, each with its own end in the place of the one that it has, or with the
 /// usual end if there is none for it. In an unended text the last line has no end, unless it is
 /// empty.
-fn ended_text(
+pub(crate) fn with_line_ends(
     alloc: Global,
     usual: LineEnd,
     unended: bool,
@@ -159,7 +157,7 @@ fn ended_text(
     text: &[u8],
 ) -> Result<Vec<u8>, AllocError>
     ensures { IfOk result (λ ended. ended.items
-        ≡ ended_text usual unended ends.now (lines text.now)) }
+        ≡ with_line_ends usual unended ends.now (lines text.now)) }
 {
     let mut ended = Vec::new(alloc);
     let Some((mut line, mut rest)) = split_line(text) else {
@@ -178,21 +176,4 @@ fn ended_text(
         ended.extend_from_slice(bytes_of_end(end_at(usual, ends, 0)))?;
     }
     Ok(ended)
-}
-
-/// What is printed of a text that a view made, if the lines of the log end so.
-pub(crate) fn ended_view(
-    alloc: Global,
-    view: EditView,
-    ends: &LogEnds,
-    text: Vec<u8>,
-) -> Result<Vec<u8>, AllocError>
-    ensures { IfOk result (λ made. made.items
-        ≡ ended_view view (shown_ends ends.now) text.items) }
-{
-    match view {
-        EditView::Log => ended_text(alloc, ends.usual, ends.unended, &ends.each, &text),
-        EditView::Undo | EditView::Guarded => ended_text(alloc, ends.usual, false, &[], &text),
-        _ => Ok(text),
-    }
 }

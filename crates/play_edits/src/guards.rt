@@ -11,7 +11,7 @@ ghost use Rattle.play_edits.specs.Refusal.{other_line_in, IsNearest, distance, e
 ghost use Rattle.play_edits.specs.Refusal.{expected_line, found_with, nearer, nearest};
 ghost use Rattle.std.specs.Option.{option_map_or};
 
-use crate::refusal::{ExpectedLine, KeptLine, Refusal};
+use crate::refusal::{ExpectedLine, LineCopy, Refusal};
 use base_lines::check_line;
 use cave_replay::Session;
 use play_machine::CaveMachine;
@@ -126,7 +126,7 @@ fn other_line(guard: &Guard, expected: ExpectedLine, lines: usize, line: Option<
 {
     match line {
         None => Refusal::NoLine(guard.line, lines, expected),
-        Some(line) => Refusal::OtherLine(guard.line, KeptLine::of(line), expected),
+        Some(line) => Refusal::OtherLine(guard.line, LineCopy::of(line), expected),
     }
 }
 
@@ -184,8 +184,8 @@ fn expected_by(text: &[u8], place: Option<usize>) -> ExpectedLine
     ensures { result ≡ expected_by text.now place }
 {
     match place {
-        None => ExpectedLine::Nowhere(KeptLine::of(text)),
-        Some(at) => ExpectedLine::At(KeptLine::of(text), at),
+        None => ExpectedLine::Nowhere(LineCopy::of(text)),
+        Some(at) => ExpectedLine::At(LineCopy::of(text), at),
     }
 }
 

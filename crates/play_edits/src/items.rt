@@ -9,12 +9,11 @@ ghost use Rattle.play_edits.specs.Items.{refusal_list};
 ghost use Rattle.play_edits.specs.Ends.{shown_ends};
 ghost use Rattle.play_edits.specs.Outcome.{refusal_in};
 
-use crate::ends::{LogEnds, ended_view};
+use crate::ends::LogEnds;
 use crate::guards::unmet_guard;
+use crate::item_watch::ItemWatch;
 use crate::outcome::Totals;
 use crate::refusal::{Refusal, edit_refusal};
-use crate::undo::keep_back;
-use crate::view_text::ViewText;
 use base_lines::Meter;
 use cave_replay::{GroupReport, Session};
 use play_command::{EditView, Editing, ReportView};
@@ -50,7 +49,7 @@ pub fn apply_items(
     items: &[Item],
     editing: Editing,
     report: Option<ReportView>,
-    mut ends: LogEnds,
+    ends: LogEnds,
 ) -> Result<Result<MadeEdit, Refusal>, AllocError>
     requires { length items.now < 2 ^ 32 }
     ensures made { IfOk result (λ outcome. IfOk outcome (IsMade editing report
@@ -60,36 +59,33 @@ pub fn apply_items(
         IfOk result (λ outcome. MatchResult outcome (λ _. refused ≡ None)
         (λ refusal. refused ≡ Some refusal)) }
 {
-    let mut told = ViewText::start(alloc, Some(editing.view))?;
-    let mut beside = ViewText::start(alloc, edit_view_of(report))?;
+    let Editing { view, guarded, .. } = editing;
+    let mut view_watch = ItemWatch::start(alloc, Some(view), guarded, ends)?;
+    let no_ends = LogEnds::of(alloc, b"", b"")?;
+    let mut report_watch = ItemWatch::start(alloc, edit_view_of(report), guarded, no_ends)?;
     let mut totals = Totals {
         played: 0,
         lines: 0,
     };
     let mut refused = Vec::new(alloc);
-    let mut backs = Vec::new(alloc);
     for item in items {
-        told.before(alloc, session, item)?;
-        beside.before(alloc, session, item)?;
+        view_watch.before(alloc, session, item)?;
+        report_watch.before(alloc, session, item)?;
         let outcome = apply_item(alloc, session, item)?;
         if let Some(refusal) = if_strict(editing.strict, &outcome) {
             return Ok(Err(refusal));
         }
-        told.after(alloc, session, item, &outcome)?;
-        beside.after(alloc, session, item, &outcome)?;
+        view_watch.after(alloc, session, item, &outcome)?;
+        report_watch.after(alloc, session, item, &outcome)?;
         totals = totals.with(&outcome);
-        ends.follow(item, &outcome)?;
         note_refusal(&mut refused, &outcome)?;
-        keep_back(alloc, session, editing, outcome, &mut backs)?;
     }
-    backs.reverse();
-    told.end(alloc, session, totals, &backs)?;
-    beside.end(alloc, session, totals, &backs)?;
-    let text = ended_view(alloc, editing.view, &ends, told.text)?;
+    let text = view_watch.end(alloc, session, totals)?;
+    let report = report_watch.end(alloc, session, totals)?;
     let run = EditRun {
         played: totals.played,
         refused,
-        report: beside.text,
+        report,
         seed: session.seed(),
     };
     Ok(Ok(MadeEdit { run, text }))

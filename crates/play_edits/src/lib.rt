@@ -4,14 +4,14 @@
 
 pub mod ends;
 mod guards;
+mod item_watch;
 pub mod items;
 pub mod laws;
 pub mod outcome;
 pub mod refusal;
 pub mod reports;
 mod undo;
-mod view_text;
 
 pub use ends::LogEnds;
 pub use items::{EditRun, MadeEdit, apply_items};
-pub use refusal::{ExpectedLine, KeptLine, Refusal};
+pub use refusal::{ExpectedLine, LineCopy, Refusal};

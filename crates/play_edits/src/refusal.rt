@@ -2,8 +2,8 @@
 
 ghost use Rattle.std.specs.Prelude.{◌≡◌};
 ghost use Rattle.replay_scripts.specs.Views.{applied_item};
-ghost use Rattle.play_edits.specs.Refusal.{edit_number, edit_refusal, kept_line, refusal_line};
-ghost use Rattle.play_edits.specs.Refusal.{refusal_number, shown_kept_line};
+ghost use Rattle.play_edits.specs.Refusal.{edit_number, edit_refusal, line_copy, refusal_line};
+ghost use Rattle.play_edits.specs.Refusal.{refusal_number, shown_copy};
 
 use replay_edits::{EditFault, GroupFault};
 use replay_scripts::Item;
@@ -14,22 +14,22 @@ const MAX_KEPT: usize = 255;
 
 /// A line of a log, which lies in the value itself.
 #[derive(Clone, Copy, Debug, PartialEq, Eq)]
-pub struct KeptLine {
+pub struct LineCopy {
     bytes: [u8; MAX_KEPT],
     len: u8,
 }
 
-impl KeptLine {
+impl LineCopy {
     /// The first bytes of a line, or all of them if a log may have it.
-    pub(crate) fn of(line: &[u8]) -> KeptLine
-        ensures { result ≡ kept_line line.now }
+    pub(crate) fn of(line: &[u8]) -> LineCopy
+        ensures { result ≡ line_copy line.now }
     {
         let cut = &line[..MAX_KEPT.min(line.len())];
         let mut bytes = [0; MAX_KEPT];
         for (i, byte) in cut.iter().enumerate() {
             bytes[i] = *byte;
         }
-        KeptLine {
+        LineCopy {
             bytes,
             len: cut.len() as u8,
         }
@@ -37,7 +37,7 @@ impl KeptLine {
 
     /// The line.
     pub fn as_slice(&self) -> &[u8]
-        ensures { result.now ≡ shown_kept_line self.now }
+        ensures { result.now ≡ shown_copy self.now }
     {
         &self.bytes[..usize::from(self.len)]
     }
@@ -49,9 +49,9 @@ pub enum ExpectedLine {
     /// No log may have it.
     Impossible,
     /// The log doesn't have it.
-    Nowhere(KeptLine),
+    Nowhere(LineCopy),
     /// The log has it at this place, and at none that is nearer to the guard's.
-    At(KeptLine, usize),
+    At(LineCopy, usize),
 }
 
 /// Why an item of a script is refused, with the line of the script that reports name for it.
@@ -62,7 +62,7 @@ pub enum Refusal {
     /// A guard expects a line at a place where the log, which has this many lines, has none.
     NoLine(usize, usize, ExpectedLine),
     /// A guard expects a line other than the one that the log has.
-    OtherLine(usize, KeptLine, ExpectedLine),
+    OtherLine(usize, LineCopy, ExpectedLine),
 }
 
 impl Refusal {

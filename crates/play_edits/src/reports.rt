@@ -10,7 +10,7 @@ ghost use Rattle.play_edits.specs.Items.{item_report_by};
 ghost use Rattle.play_edits.specs.Outcome.{refusal_in, standing_of};
 
 use crate::outcome::{Standing, Totals, standing_of};
-use crate::refusal::{EditWords, ExpectedLine, KeptLine, Refusal};
+use crate::refusal::{EditWords, ExpectedLine, LineCopy, Refusal};
 use base_text::Text;
 use cave_replay::{GroupReport, Session};
 use cave_world::{Ending, State};
@@ -102,7 +102,7 @@ fn put_replay(text: &mut Text, item: &Item, done: &GroupReport)
 }
 
 /// Writes which line a guard expects.
-fn put_expected_words(text: &mut Text, line: &KeptLine)
+fn put_expected_words(text: &mut Text, line: &LineCopy)
     ensures { Tells (expected_words line.now) text.old text.new }
 {
     text.put(b"; expected ");

@@ -6,14 +6,13 @@ ghost use Rattle.replay_edits.specs.Draft.{IsDraft, edits_in, log_before, made_i
 ghost use Rattle.replay_edits.specs.Edit.{change_of, changes_of, log_of};
 ghost use Rattle.replay_edits.specs.Faults.{fault_of_all, log_after_all};
 ghost use Rattle.replay_scripts.specs.ScriptText.{backs_in, groups_in};
-ghost use Rattle.play_edits.specs.Undo.{asks_backs, back_by, backs_by, expected_at, expected_lines};
-ghost use Rattle.play_edits.specs.Undo.{expecting, if_asked, lines_in, without_guard};
+ghost use Rattle.play_edits.specs.Undo.{back_by, backs_by, expected_at, expected_lines, expecting};
+ghost use Rattle.play_edits.specs.Undo.{lines_in, without_guard};
 ghost use Rattle.play_edits.specs.Undo.{guarded_group, text_if_done};
 
 use crate::refusal::Refusal;
 use base_text::Text;
 use cave_replay::{GroupReport, Session};
-use play_command::{EditView, Editing};
 use play_machine::CaveMachine;
 use replay_checkpoints::Blocks;
 use replay_edits::plan::plan_edits;
@@ -21,31 +20,22 @@ use replay_edits::{Draft, Edit, LineText};
 use replay_scripts::{BackEdit, push_script};
 use std::alloc::{AllocError, Global};
 
-fn asks_backs(view: EditView) -> bool
-    ensures { result ≡ asks_backs view }
-{
-    matches!(view, EditView::Undo)
-}
-
-/// Keeps what takes an item back, if the view asks for it and the item was accepted.
+/// Keeps what takes an item back, if the item was accepted.
 pub(crate) fn keep_back(
     alloc: Global,
     session: &Session<CaveMachine<'_>>,
-    editing: Editing,
-    outcome: Result<GroupReport, Refusal>,
+    guarded: bool,
+    outcome: &Result<GroupReport, Refusal>,
     backs: &mut Vec<Vec<BackEdit>>,
 ) -> Result<(), AllocError>
-    requires { IfOk outcome (λ done.
+    requires { IfOk outcome.now (λ done.
         fault_of_all (changes_of done.inverse.items) session.now.game.log 0 ≡ None) }
     ensures { OnOk result (groups_in backs.new.items ≡ groups_in backs.old.items
-        ++ if_asked editing.view (back_by editing.guarded outcome session.now.game.log)) }
+        ++ back_by guarded outcome.now session.now.game.log) }
 {
-    if !asks_backs(editing.view) {
-        return Ok(());
-    }
     match outcome {
         Ok(done) => {
-            let back = backs_of(alloc, done.inverse, session.log(), editing.guarded)?;
+            let back = backs_of(alloc, &done.inverse, session.log(), guarded)?;
             backs.push(back)?;
             Ok(())
         }
@@ -54,21 +44,22 @@ pub(crate) fn keep_back(
 }
 
 /// The edits of a log, each with a guard of the line at its place if that is asked for.
-pub(crate) fn backs_of(
+fn backs_of(
     alloc: Global,
-    edits: Vec<Edit>,
+    edits: &[Edit],
     log: &Blocks<LineText>,
     guarded: bool,
 ) -> Result<Vec<BackEdit>, AllocError>
-    requires { fault_of_all (changes_of edits.items) (log_of log.now.items) 0 ≡ None }
+    requires { fault_of_all (changes_of edits.now) (log_of log.now.items) 0 ≡ None }
     ensures { IfOk result (λ backs. backs_in backs.items
-        ≡ backs_by guarded (changes_of edits.items) (log_of log.now.items)) }
+        ≡ backs_by guarded (changes_of edits.now) (log_of log.now.items)) }
 {
+    let copies = copy_changes(alloc, edits)?;
     if guarded {
-        let lines = expected_lines(alloc, &edits, log)?;
-        expecting(alloc, edits, lines)
+        let lines = expected_lines(alloc, edits, log)?;
+        expecting(alloc, copies, lines)
     } else {
-        without_guards(alloc, edits)
+        without_guards(alloc, copies)
     }
 }
 
@@ -179,7 +170,7 @@ pub(crate) fn guarded_group(
     if plan_edits(edits, log.len()).is_err() {
         return Ok(text);
     }
-    let backs = backs_of(alloc, copy_changes(alloc, edits)?, log, true)?;
+    let backs = backs_of(alloc, edits, log, true)?;
     let mut groups = Vec::with_capacity(alloc, 1)?;
     groups.push(backs)?;
     push_script(alloc, &mut text, &groups)?;

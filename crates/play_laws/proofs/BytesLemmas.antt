@@ -16,8 +16,8 @@ use Rattle.play_edits.proofs.EditLemmas.{IsGame-after_all}
 use Rattle.play_edits.proofs.GuardedLemmas.{spellable-guarded_all}
 use Rattle.play_edits.proofs.SayableLemmas.{spellable-all}
 use Rattle.replay_edits.specs.Edit.{Game, IsGame, game_of}
-use Rattle.play_edits.specs.Ends.{ended_text, ends_in, first_end, are_alike, is_unended, ends_with}
-use Rattle.play_edits.specs.Ends.{log_ends, ends_after_items, ended_view}
+use Rattle.play_edits.specs.Ends.{with_line_ends, ends_in, first_end, are_alike, is_unended, ends_with}
+use Rattle.play_edits.specs.Ends.{log_ends, ends_after_items, printed_text}
 use Rattle.play_edits.specs.declared.ends.LineEnd.{LineEnd}
 use Rattle.play_edits.specs.declared.ends.LineEnd.TheVariants.{Feed}
 use Rattle.play_edits.proofs.EndLemmas.{alike-again, ends-alike, first-alike, first-closed}
@@ -69,7 +69,7 @@ lines_printed cave every log script edited seed played guarded good edit =
     let ends = ends_after_items edit.edit.items game (log_ends log script) in
     let there = text_lines after.log (IsGame-after_all edit.edit.items game good).lines in
     ap lines edit.printed
-    ∙ ap (λ found. lines (ended_text ends.usual ends.unended ends.each found))
+    ∙ ap (λ found. lines (with_line_ends ends.usual ends.unended ends.each found))
     edit.edit.written.reads_back
     ∙ lines-ended ends.usual ends.unended ends.each after.log there
 
@@ -177,7 +177,7 @@ nothing_spelled true text items none (read, spelled) =
 
 -- the end of the lines of an alike text, and whether its last line has one
 same_unended : (end : LineEnd) (log : List (List ℕ)) (unended : Bool) (edited : List ℕ)
-    → edited ≡ ended_text end unended [] log → (unended ≡ true → is_unended edited ≡ true)
+    → edited ≡ with_line_ends end unended [] log → (unended ≡ true → is_unended edited ≡ true)
     → is_unended edited ≡ unended
 same_unended end log true edited is shut = shut refl
 same_unended end log false edited is shut = ap is_unended is ∙ unended-closed end log
@@ -186,13 +186,13 @@ same_unended end log false edited is shut = ap is_unended is ∙ unended-closed 
 comes_back : (end : LineEnd) (unended : Bool) (log edited_log undo_lines : List (List ℕ))
     (edited undo : List ℕ) → All IsTextLine log → All IsTextLine edited_log
     → All IsTextLine undo_lines
-    → edited ≡ ended_text end unended [] edited_log → undo ≡ ended_text end false [] undo_lines
+    → edited ≡ with_line_ends end unended [] edited_log → undo ≡ with_line_ends end false [] undo_lines
     → (undo_lines ≡ [] → edited_log ≡ log) → (unended ≡ true → is_unended edited ≡ true)
-    → ended_text (first_end (first_end Feed (ends_in undo)) (ends_in edited)) (is_unended edited) []
-    log ≡ ended_text end unended [] log
+    → with_line_ends (first_end (first_end Feed (ends_in undo)) (ends_in edited)) (is_unended edited) []
+    log ≡ with_line_ends end unended [] log
 comes_back end unended log edited_log [] edited undo good after there is undo_is none shut =
-    let same : edited ≡ ended_text end unended [] log =
-    is ∙ ap (ended_text end unended []) (none refl) in
+    let same : edited ≡ with_line_ends end unended [] log =
+    is ∙ ap (with_line_ends end unended []) (none refl) in
     alike-again end (first_end Feed (ends_in undo)) unended log edited good same ∙ same
 comes_back end unended log edited_log (first ∷ more) edited undo good after there is undo_is none
     shut =
@@ -201,14 +201,14 @@ comes_back end unended log edited_log (first ∷ more) edited undo good after th
     let all : are_alike end (ends_in edited) ≡ true =
     ap (λ text. are_alike end (ends_in text)) is
     ∙ ends-alike end unended edited_log after in
-    ap (λ one. ended_text (first_end one (ends_in edited)) (is_unended edited) [] log) usual
-    ∙ ap (λ one. ended_text one (is_unended edited) [] log) (first-alike end (ends_in edited) all)
-    ∙ ap (λ is. ended_text end is [] log) (same_unended end edited_log unended edited is shut)
+    ap (λ one. with_line_ends (first_end one (ends_in edited)) (is_unended edited) [] log) usual
+    ∙ ap (λ one. with_line_ends one (is_unended edited) [] log) (first-alike end (ends_in edited) all)
+    ∙ ap (λ is. with_line_ends end is [] log) (same_unended end edited_log unended edited is shut)
 
 -- how the lines of a log end after edits, if they all ended alike
 pub ends_stay : (end : LineEnd) (unended : Bool) (items : List Applied) (game : Game)
     (log script : List ℕ) (each : List (List ℕ)) → All IsTextLine each
-    → log ≡ ended_text end unended [] each
+    → log ≡ with_line_ends end unended [] each
     → ends_after_items items game (log_ends log script)
     ≡ ends_with (first_end (first_end Feed (ends_in script)) (ends_in log)) [] (is_unended log)
     (ends_in script)
@@ -234,16 +234,16 @@ bytes_undone cave every log script edited undo again seed next played counted re
     let kept = text_lines (lines log) good.lines in
     let changed = text_lines after.log (IsGame-after_all items game good).lines in
     let usual = first_end (first_end Feed (ends_in script)) (ends_in log) in
-    let log_is : ended_text usual (is_unended log) [] (lines log) ≡ log =
+    let log_is : with_line_ends usual (is_unended log) [] (lines log) ≡ log =
     alike-again end (first_end Feed (ends_in script)) unended (lines log) log kept alike in
-    let edited_is : edited ≡ ended_text usual (is_unended log) [] after.log =
+    let edited_is : edited ≡ with_line_ends usual (is_unended log) [] after.log =
     first.printed
-    ∙ ap (λ ends. ended_view asked.Log ends first.text)
+    ∙ ap (λ ends. printed_text (Some asked.Log) ends first.text)
     (ends_stay end unended items game log script (lines log) kept alike)
-    ∙ ap (ended_text usual (is_unended log) []) first.edit.written.reads_back in
-    let undo_is : undo ≡ ended_text usual false [] (lines second.text) =
+    ∙ ap (with_line_ends usual (is_unended log) []) first.edit.written.reads_back in
+    let undo_is : undo ≡ with_line_ends usual false [] (lines second.text) =
     second.printed
-    ∙ ap (λ ends. ended_view asked.Undo ends second.text)
+    ∙ ap (λ ends. printed_text (Some asked.Undo) ends second.text)
     (ends_stay end unended second.edit.items game log script (lines log) kept alike) in
     let there =
     undo_stands guarded second.edit.items game second.text good second.edit.written in
@@ -266,10 +266,10 @@ bytes_undone cave every log script edited undo again seed next played counted re
     (sym (ap (λ some. game_after_items some after)
     (nothing_spelled guarded second.text backs empty taken.spelled)) ∙ taken.back) in
     third.printed
-    ∙ ap (λ ends. ended_view asked.Log ends third.text)
+    ∙ ap (λ ends. printed_text (Some asked.Log) ends third.text)
     (ends_stay usual (is_unended log) third.edit.items (game_of next (lines edited)) edited undo
     after.log changed edited_is)
-    ∙ ap (ended_text (first_end (first_end Feed (ends_in undo)) (ends_in edited))
+    ∙ ap (with_line_ends (first_end (first_end Feed (ends_in undo)) (ends_in edited))
     (is_unended edited) [])
     (third.edit.written.reads_back ∙ ap (λ (g : Game). g.log) back)
     ∙ comes_back usual (is_unended log) (lines log) after.log (lines second.text) edited undo kept

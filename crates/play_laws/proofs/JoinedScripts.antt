@@ -9,7 +9,7 @@ use Rattle.std.proofs.lemmas.List.{map-append}
 use Rattle.play_edits.specs.Items.{game_after_item, game_after_items, game_left}
 use Rattle.play_edits.specs.Laws.{ScriptsRunInTurn}
 use Rattle.play_edits.specs.Refusal.{edit_refusal, expected_line, first_unmet, group_refusal}
-use Rattle.play_edits.specs.Refusal.{item_refusal, kept_line, other_line, other_line_in, unmet}
+use Rattle.play_edits.specs.Refusal.{item_refusal, line_copy, other_line, other_line_in, unmet}
 use Rattle.play_edits.specs.declared.refusal.ExpectedLine.{ExpectedLine}
 use Rattle.play_edits.specs.declared.refusal.Refusal.{Refusal}
 use Rattle.play_edits.specs.declared.refusal.Refusal.TheVariants.{OtherLine}
@@ -268,9 +268,9 @@ module _ (by : ℕ) where
     where
       by_line : (same : Bool)
           → is_none (cond {A = Option Refusal} same None
-          (Some (OtherLine (guard.line + by) (kept_line line) expected)))
+          (Some (OtherLine (guard.line + by) (line_copy line) expected)))
           ≡ is_none (cond {A = Option Refusal} same None
-          (Some (OtherLine guard.line (kept_line line) other)))
+          (Some (OtherLine guard.line (line_copy line) other)))
       by_line true = refl
       by_line false = refl
 

@@ -7,7 +7,7 @@ use Rattle.std.specs.Str.Lines.{lines}
 use Rattle.cave_data.specs.CaveView.{CaveView}
 use Rattle.cave_play.proofs.ScriptLemmas.{script_by-spelled}
 use Rattle.cave_play.specs.Output.{IsSideReport, IsEdited}
-use Rattle.play_edits.specs.Ends.{ended_view, ends_after_items, ends_by, log_ends, ends_in}
+use Rattle.play_edits.specs.Ends.{printed_text, ends_after_items, ends_by, log_ends, ends_in}
 use Rattle.play_edits.specs.Ends.{is_unended}
 use Rattle.play_edits.specs.Views.{IsEndedEdit, refusals_of, seed_after, IsEditOf, IsLogOf}
 use Rattle.play_edits.specs.Views.{IsViewOf}
@@ -97,7 +97,7 @@ edit_by view cave every log script next output seed played other is spelled ends
     } in record {
       text = is.text;
       edit = made;
-      printed = is.printed ∙ ap (λ ends. ended_view view ends is.text)
+      printed = is.printed ∙ ap (λ ends. printed_text (Some view) ends is.text)
           (same.ended (log_ends log script)
           ∙ ap (λ some. ends_after_items other game (ends_by (ends_in log) (is_unended log) some))
           ends);

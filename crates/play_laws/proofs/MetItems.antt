@@ -1,11 +1,11 @@
 -- Items whose guards are met do what they do without guards.
-use Rattle.std.proofs.Common.{◌≡◌, ◌∙◌, ℕ, ◌+◌, Bool, List, [], ◌∷◌, ◌++◌, length, reverse, Option}
+use Rattle.std.proofs.Common.{◌≡◌, ◌∙◌, ℕ, ◌+◌, ◌-◌, Bool, List, [], ◌∷◌, ◌++◌, length, reverse, Option}
 use Rattle.std.proofs.Common.{Some, None, Ok, Err, option_map, refl, sym, ap, ap₂, subst}
 use Rattle.std.specs.List.{AllByRecursion, sum_by}
 use Rattle.std.specs.Option.{option_or}
 use Rattle.cave_data.specs.CaveView.{CaveView}
 use Rattle.play_edits.specs.Ends.{ends_after_items, ends_left, EndsOfLog, each_after, ends_after}
-use Rattle.play_edits.specs.Ends.{ends_after_changes, ends_with, end_of_line}
+use Rattle.play_edits.specs.Ends.{end_at, ends_after_changes, ends_with}
 use Rattle.play_laws.specs.GuardLaws.{AreMet}
 use Rattle.play_edits.specs.Items.{refusal_list, refusals, game_after_item, game_after_items}
 use Rattle.play_edits.specs.Items.{item_report, item_report_by, reports}
@@ -118,7 +118,7 @@ changes_bare : (usual : LineEnd) (script : List LineEnd) (item : Applied) (at : 
 changes_bare usual script item at [] ends = refl
 changes_bare usual script item at (change ∷ changes) ends =
     changes_bare usual script item (at + 1) changes
-    (ends_after change (end_of_line usual script (line_of_refusal item at)) ends)
+    (ends_after change (end_at usual script (line_of_refusal item at - 1)) ends)
 
 each_bare : (usual : LineEnd) (script : List LineEnd) (item : Applied) (ends : List LineEnd)
     → each_after usual script item ends ≡ each_after usual script (bare item) ends

@@ -13,7 +13,7 @@ use Rattle.replay_scripts.specs.Script.{Applied}
 use Rattle.play_laws.specs.RunLaws.{OneCheckedOutput, OnePlayedOutput, OneEditedOutput}
 use Rattle.play_laws.specs.RunLaws.{KnowsNoCheckpoints}
 use Rattle.cave_play.specs.Output.{check_text, play_view_text}
-use Rattle.play_edits.specs.Ends.{ended_view, ends_after_items, log_ends}
+use Rattle.play_edits.specs.Ends.{printed_text, ends_after_items, log_ends}
 use Rattle.play_edits.specs.Views.{IsViewOf}
 use Rattle.play_edits.specs.Outcome.{ItemOutcome}
 
@@ -74,6 +74,6 @@ one_edited_output database bindings log script seed near far view guarded strict
     one_view view kept game guarded same.edit.items is.edit.outcomes same.edit.outcomes is.text
     same.text free there same.edit.written in
     is.printed
-    ∙ ap (λ items. ended_view view (ends_after_items items game opened) is.text) spells
-    ∙ ap (ended_view view (ends_after_items same.edit.items game opened)) texts
+    ∙ ap (λ items. printed_text (Some view) (ends_after_items items game opened) is.text) spells
+    ∙ ap (printed_text (Some view) (ends_after_items same.edit.items game opened)) texts
     ∙ sym same.printed

@@ -8,7 +8,7 @@ use Rattle.cave_play.proofs.ScriptLemmas.{same_items}
 use Rattle.cave_play.proofs.AcceptedLogs.{IsGame-accepted}
 use Rattle.play_laws.specs.Bytes.{EndsAlike}
 use Rattle.play_edits.specs.Views.{IsEndedEdit, IsUndo}
-use Rattle.play_edits.specs.Ends.{ended_view, ended_text, ends_in, first_end, is_unended}
+use Rattle.play_edits.specs.Ends.{printed_text, with_line_ends, ends_in, first_end, is_unended}
 use Rattle.play_edits.specs.Edits.{ending_refusal}
 use Rattle.play_command.specs.declared.views.EditView.TheVariants as asked
 use Rattle.play_edits.proofs.EndLemmas.{unended-closed}
@@ -24,23 +24,23 @@ use Rattle.play_laws.specs.Redo.{RedoGivesTheEdits}
 edited_ends : (cave : CaveView) (every : ℕ) (log script edited : List ℕ) (seed played : ℕ)
     (guarded : Bool) → IsGame (game_of seed (lines log)) → EndsAlike log
     → IsEndedEdit asked.Log cave every log seed guarded script played edited
-    → edited ≡ ended_text (first_end (first_end Feed (ends_in script)) (ends_in log))
+    → edited ≡ with_line_ends (first_end (first_end Feed (ends_in script)) (ends_in log))
     (is_unended log) [] (lines edited)
 edited_ends cave every log script edited seed played guarded good (end, unended, alike) edit =
     let items = edit.edit.items in
     let game = game_of seed (lines log) in
     let usual = first_end (first_end Feed (ends_in script)) (ends_in log) in
     edit.printed
-    ∙ ap (λ ends. ended_view asked.Log ends edit.text)
+    ∙ ap (λ ends. printed_text (Some asked.Log) ends edit.text)
     (ends_stay end unended items game log script (lines log) (text_lines (lines log) good.lines)
     alike)
-    ∙ ap (ended_text usual (is_unended log) [])
+    ∙ ap (with_line_ends usual (is_unended log) [])
     (edit.edit.written.reads_back
     ∙ sym (lines_printed cave every log script edited seed played guarded good edit))
 
 -- if no line feed ends such a text, none ended the log
 still_unended : (usual : LineEnd) (unended : Bool) (edited : List ℕ) (text : List (List ℕ))
-    → edited ≡ ended_text usual unended [] text → is_unended edited ≡ true → unended ≡ true
+    → edited ≡ with_line_ends usual unended [] text → is_unended edited ≡ true → unended ≡ true
 still_unended usual true edited text is unclosed = refl
 still_unended usual false edited text is unclosed =
     let closed : false ≡ true = sym (ap is_unended is ∙ unended-closed usual text) ∙ unclosed in

@@ -7,7 +7,7 @@ use Rattle.cave_data.specs.CaveView.{CaveView}
 use Rattle.play_command.specs.declared.views.EditView.TheVariants as asked
 use Rattle.play_edits.specs.Items.{game_after_items}
 use Rattle.replay_edits.specs.Edit.{game_of}
-use Rattle.play_edits.specs.Ends.{ended_text, is_unended}
+use Rattle.play_edits.specs.Ends.{with_line_ends, is_unended}
 use Rattle.play_edits.specs.declared.ends.LineEnd.{LineEnd}
 use Rattle.replay_scripts.specs.Guards.{IsScriptBy}
 use Rattle.replay_scripts.specs.Script.{Applied}
@@ -67,7 +67,7 @@ GuardedScriptsDoTheSame =
 -- all lines of a text end alike, and the last line may have no end
 abbrev pub EndsAlike : List ℕ → Type 0
 EndsAlike text = (end : LineEnd) × (unended : Bool)
-    × (text ≡ ended_text end unended [] (lines text))
+    × (text ≡ with_line_ends end unended [] (lines text))
 
 -- A log whose lines all end alike is edited. Then the script that takes the edits back edits the
 -- edited log, with the seed that it has: this gives the bytes of the log. If its last line has no

@@ -1,11 +1,13 @@
--- What a view writes of items that are applied to a game, if one is asked for.
-use Rattle.std.specs.Prelude.{ℕ, List, [], ◌++◌, Option, None, Some}
+-- What a view prints of items that are applied to a game, and what it keeps for that. If there is no
+-- view, nothing is printed.
+use Rattle.std.specs.Prelude.{ℕ, Bool, true, false, List, [], ◌++◌, reverse, Option, None, Some}
+use Rattle.std.specs.Prelude.{if◌then◌else◌}
 use Rattle.cave_data.specs.CaveView.{CaveView}
 use Rattle.cave_replay.specs.LogText.{log_text}
 use Rattle.cave_world.specs.declared.state.State.{State}
 use Rattle.play_command.specs.declared.views.EditView.{EditView}
 use Rattle.play_edits.specs.Accounts.{account_by, text_of_items, totals_line, last_state, row_by}
-use Rattle.play_edits.specs.Undo.{guarded_group, text_if_done}
+use Rattle.play_edits.specs.Undo.{back_by, backs_of, guarded_group, text_if_done}
 use Rattle.play_edits.specs.Items.{game_after_item, game_after_items, item_report_by}
 use Rattle.play_edits.specs.Outcome.{ItemOutcome, lines_in, played_in, refusal_in, standing_of}
 use Rattle.play_machine.specs.FinalState.{final_state_text, score_text}
@@ -48,6 +50,18 @@ abbrev pub text_of_item : Option EditView → CaveView → Applied → Game → 
 text_of_item view cave item game outcome = text_after view cave item outcome
     (state_before view cave game) (guarded_before view item game) (game_after_item item game)
 
+-- what takes items back is kept if the view prints it
+abbrev pub asks_backs : Option EditView → Bool
+asks_backs (Some EditView.Undo) = true
+asks_backs _ = false
+
+abbrev pub if_asked : Option EditView → List (List Back) → List (List Back)
+if_asked view backs = if asks_backs view then backs else []
+
+-- that of an item, if the log after it is this one
+abbrev pub backs_after : Option EditView → Bool → ItemOutcome → List (List ℕ) → List (List Back)
+backs_after view guarded outcome log = if_asked view (back_by guarded outcome log)
+
 -- after all items, if they leave this game, this many lines were played for them instead of so
 -- many, and these changes take them back
 abbrev pub text_at_end : Option EditView → CaveView → Game → ℕ → ℕ → List (List Back) → List ℕ
@@ -62,10 +76,10 @@ text_at_end (Some EditView.Score) cave game played lines backs = score_text cave
 text_at_end (Some EditView.FinalState) cave game played lines backs = final_state_text cave game
 text_at_end _ cave game played lines backs = []
 
--- all that it writes
-abbrev pub view_text : Option EditView → CaveView → List Applied → Game → List ItemOutcome
-    → List (List Back) → List ℕ
-view_text view cave items game outcomes backs =
+-- all that it writes, the last item first if that is what takes them back
+abbrev pub view_text : Option EditView → Bool → CaveView → List Applied → Game → List ItemOutcome
+    → List ℕ
+view_text view guarded cave items game outcomes =
     text_at_start view ++ (text_of_items (text_of_item view cave) items game outcomes
     ++ text_at_end view cave (game_after_items items game) (sum_by played_in outcomes)
-    (sum_by lines_in outcomes) backs)
+    (sum_by lines_in outcomes) (reverse (if_asked view (backs_of guarded items game))))

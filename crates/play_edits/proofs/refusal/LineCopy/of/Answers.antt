@@ -4,8 +4,8 @@ use Rattle.std.proofs.Common.{ap₂}
 use Rattle.std.proofs.lemmas.List.{take_more, length-take, take_all, take_min}
 use Rattle.std.proofs.Math.Seq.{set-append_seam}
 use Rattle.play_edits.specs.Refusal.{filled, MAX_KEPT}
-use Rattle.play_edits.specs.declared.refusal.KeptLine.{KeptLine}
-use Rattle.play_edits.proofs.refusal.KeptLine.of.Goals as goal
+use Rattle.play_edits.specs.declared.refusal.LineCopy.{LineCopy}
+use Rattle.play_edits.proofs.refusal.LineCopy.of.Goals as goal
 
 set-after : (text : List ℕ) (byte k : ℕ)
     → set (text ++ replicate (suc k) 0) (length text) byte ≡ (text ++ byte ∷ []) ++ replicate k 0
@@ -41,5 +41,5 @@ returns c =
     let cut_is = ap (λ n. take n line) c.min.ensures ∙ take_min 255 line in
     let all = take_all c.loop-i.i cut (omega (arith, c.loop-i-test.false)) in
     let bytes = c.loop-i.invariant ∙ ap filled (all ∙ cut_is) in
-    let made : List ℕ → ℕ → KeptLine = λ bytes len. record { bytes = bytes; len = len } in
+    let made : List ℕ → ℕ → LineCopy = λ bytes len. record { bytes = bytes; len = len } in
     ap₂ made bytes (ap length cut_is)

@@ -1,13 +1,13 @@
 -- the remaining lines with their ends, after those that are written, make the whole text
 use Rattle.std.proofs.Common.{◌≡◌, ◌++◌, ◌∷◌, length}
 use Rattle.std.specs.Str.Lines.{lines}
-use Rattle.play_edits.specs.Ends.{ended_text}
-use Rattle.play_edits.proofs.ends.ended_text.Given as goal
+use Rattle.play_edits.specs.Ends.{with_line_ends}
+use Rattle.play_edits.proofs.ends.with_line_ends.Given as goal
 
 abbrev pub invariant-loop-next : goal.invariant-loop-next
 invariant-loop-next l =
-    l.ended.items ++ ended_text l.usual l.unended l.ends (l.line ∷ lines l.rest)
-    ≡ ended_text l.usual l.unended l.initial.ends (lines l.text)
+    l.ended.items ++ with_line_ends l.usual l.unended l.ends (l.line ∷ lines l.rest)
+    ≡ with_line_ends l.usual l.unended l.initial.ends (lines l.text)
 
 abbrev pub decreases-loop-next : goal.decreases-loop-next
 decreases-loop-next l = length l.rest
