@@ -14,7 +14,7 @@ use cave_data::Cave;
 use cave_replay::{OpenFault, Playable};
 use cave_words::Lexicon;
 use cave_world::Part;
-use data_rows::{Cause, Role};
+use data_rows::Role;
 use play_machine::CaveMachine;
 use replay_edits::{Edit, EditFault};
 use std::alloc::{AllocError, Global};
@@ -140,15 +140,15 @@ impl Drop for KnownCave {
 
 impl KnownCave {
     /// The cave, if there is memory to read it, which is all that it may be refused for.
-    fn read(rt: &impl Abort, alloc: Global) -> Option<KnownCave> {
-        let cave = match Cave::read(alloc, CAVE, b"") {
-            Ok(cave) => cave,
-            Err(error) => {
-                assert_eq!(rt; error.cause, Cause::Memory);
+    fn read(alloc: Global) -> Option<KnownCave> {
+        let cave = Cave::read(alloc, CAVE, b"").ok()?;
+        let lexicon = match Lexicon::build(alloc, &cave) {
+            Ok(lexicon) => lexicon,
+            Err(_) => {
+                drop(cave);
                 return None;
             }
         };
-        let lexicon = Lexicon::build(alloc, &cave).ok()?;
         Some(KnownCave { cave, lexicon })
     }
 
@@ -160,18 +160,18 @@ impl KnownCave {
 
 #[test]
 fn a_session_over_a_cave_goes_on_after_each_refusal(rt: HostRuntime) -> Result<(), Fail> {
-    let known = match KnownCave::read(&rt, rt.alloc()) {
+    let known = match KnownCave::read(rt.alloc()) {
         Some(known) => known,
-        None => KnownCave::read(&rt, rt.alloc()).expect(&rt, "the cave is read"),
+        None => KnownCave::read(rt.alloc()).expect(&rt, "the cave is read"),
     };
     edit_all(&rt, rt.alloc(), known.machine(), 1, &mut Meter::new())
 }
 
 #[test]
 fn a_text_is_as_it_was_after_each_refusal(rt: HostRuntime) -> Result<(), Fail> {
-    let known = match KnownCave::read(&rt, rt.alloc()) {
+    let known = match KnownCave::read(rt.alloc()) {
         Some(known) => known,
-        None => KnownCave::read(&rt, rt.alloc()).expect(&rt, "the cave is read"),
+        None => KnownCave::read(rt.alloc()).expect(&rt, "the cave is read"),
     };
     let parts = [Part::Role(Role::Welcome), Part::Role(Role::NoWay)];
     let mut text = Vec::new(rt.alloc());
