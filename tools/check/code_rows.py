@@ -9,12 +9,12 @@ begins with the number of its first row, after `from`. In the model tables are t
 
 import re
 from collections import defaultdict
-from collections.abc import Iterator
+from collections.abc import Iterable, Iterator
 from typing import NamedTuple
 
 from common.files import files, text_of
 from common.sources import sources
-from rule_tables import bracket_of, depths, parts_between
+from rule_tables import ASKED, bracket_of, depths, parts_between, with_effects
 
 BEGIN = re.compile(r"^(?! *//).*\brows! \{ (?:scene|self), Table::(\w+)[^;{]*;", re.MULTILINE)
 INNER = re.compile(r"\brows! (?=\{)")
@@ -23,30 +23,33 @@ WORDS = """say set_prop destroy bring fix loosen juggle send move carry put lay_
 troll_goes lose_to_snake look""".split()
 EFFECT = re.compile(rf"(?:(?:scene|self)\.)?({'|'.join(WORDS)})(?:_to)?\(")
 ROLE = re.compile(r"(?<!Place)Role::(\w+)")
+LET = re.compile(r"\blet \w+ = [^;]+(?=;)")
 IDLE = re.compile(r"let \w+ = |$")  # a statement that does nothing by itself
 
 
 class Coded(NamedTuple):
-    """What a row of code does: the roles that it says, and its effects by the words of the
-    definitions. Other functions that it calls, and what it changes by itself, may be more."""
+    """What a row of code does: the roles that it says, its effects by the words of the definitions,
+    and the words of its tests. What it calls or changes by itself may be more."""
 
     roles: list[str]
     words: list[str]
     does_more: bool
+    asked: list[str]
 
 
 def coded(row: str) -> Coded:
     """What a row does without the rows of other tables in it."""
     while inner := INNER.search(row):
         row = row.replace(inner[0] + bracket_of(row[inner.end() :]), "more()", 1)
-    done = row.partition("=>")[2].partition("->")[0].strip()
+    tests, _, does = row.partition("=>")
+    done = does.partition("->")[0].strip()
     parts = statements(f"{done[1:-1]};}}") if done[:1] == "{" else parts_between(",", done)
     effects = [EFFECT.match(it.strip()) for it in parts if not IDLE.match(it.strip())]
     return Coded([it.lower() for it in ROLE.findall(row)], [it[1] for it in effects if it],
-                 None in effects)
+                 None in effects, ASKED.findall(tests))
 
 
-def is_part(said: list[str], due: list[str]) -> bool:
+def is_part(said: Iterable[str], due: Iterable[str]) -> bool:
     """Whether one list is a part of another, in its order."""
     left = iter(due)
     return all(it in left for it in said)
@@ -58,15 +61,19 @@ def statements(text: str) -> list[str]:
     return [" ".join(it.split()) for it in parts_between(";", text[:end])[:-1]]
 
 
-def rows_after(text: str) -> Iterator[tuple[str, str]]:
-    """The rows of a table by their numbers, from the first letter after its head."""
-    number = 1
-    for statement in statements(text):
+def rows_after(text: str, before: str) -> Iterator[tuple[str, str]]:
+    """The rows of a table by their numbers, from the first letter after its head, each test with
+    what its names stand for by the lines before it."""
+    number, meant = 1, dict[str, str]()
+    for statement in LET.findall(before) + statements(text):
         word, _, rest = statement.partition(" ")
+        tests, arrow, does = statement.partition(" => ")
         if word == "from":
             number = int(rest)
-        elif word not in ("let", "in") and " => in " not in statement:
-            yield str(number), statement
+        elif word == "let" and not arrow:
+            meant |= [rest.split(" = ", 1)]
+        elif word != "in" and not does.startswith("in "):
+            yield str(number), with_effects(tests, meant) + arrow + does
             number += 1
 
 
@@ -74,7 +81,8 @@ def parts_coded() -> Iterator[tuple[str, str, list[tuple[str, str]]]]:
     """The tables of code and the parts of one, in their order: the file, the name and the rows."""
     for file in sources("src"):
         for head in BEGIN.finditer(file.text):
-            yield file.path, head[1], [*rows_after(file.text[head.end() :])]
+            before = file.text[file.text.rfind("fn ", 0, head.start()) : head.start()]
+            yield file.path, head[1], [*rows_after(file.text[head.end() :], before)]
 
 
 def tables_coded() -> dict[str, dict[str, list[Coded]]]:

@@ -96,7 +96,7 @@ def effects_in(defined: Mapping[str, Sequence[Table]]) -> dict[str, list[Effects
     found = defaultdict[str, list[Effects]](list)
     for path, table in ((path, it) for path, tables in defined.items() for it in tables):
         left = "x"  # what x is in all rows from here on
-        for row in table.rows if table.form == "rows" else ():
+        for row in table.rows if table.form != "effects" else ():
             tests = tests_of(row)
             own = re.findall(r"\bis(?:_it)? name\.(\w+)", tests)
             about = object_named(own[0]) if len(own) == 1 and "no (" not in tests else left

@@ -11,8 +11,8 @@ applies. A row says the messages of its definition, in their order, and names th
 tests, or of an effect, in its first cell, and all its objects and numbers in any: so two rows that
 are exchanged are noticed whenever these differ. It does what its definition does, in that order, as
 far as `row_effects` reads both sides. What is defined by the cases of a value, and isn't noted,
-isn't compared. So does the row of the model, whose tables have the names of the pages', except for
-what docs/DUEL.md lists.
+isn't compared. So does its row of code, whose tests ask nothing else, and that of the model, whose
+tables have the names of the pages', except for what docs/DUEL.md lists.
 """
 
 import re
@@ -31,8 +31,8 @@ NAMES = re.compile(r"\b[A-Z]+2?\b|\b\d+\b|\b[a-z]+\b")
 NUMBERS = {"two": "2", "three": "3", "four": "4", "five": "5", "six": "6"}
 # Rows of which the page says elsewhere what else they do, and in which order.
 ELSEWHERE = {("clocks", "1"): "the cave begins to close", ("waking", "3"): "they wake"}
-# Rows whose code does by itself what a word of the definition says, or did it before the row.
-PLAIN = {("ObjectShown", 1), ("Wave", 2), ("Toll", 1)}
+# Rows whose code does by itself, or asks, what words of the definition say, or did it before.
+PLAIN = {("ObjectShown", 1), ("Wave", 2), ("Toll", 1), ("Eat", 2), ("Threats", 3)}
 IDLE = re.compile("nothing(?:[,:]|$)|$")
 ABOVE = {"POUR": "BOTTLE gets prop 1"}  # what the page says above a table of most of its rows
 WORD = re.compile(rf"\b({'|'.join(WORDS)})\b")
@@ -108,12 +108,14 @@ def faults_of_code(label: str, rows: list[Words], done: list[Effects],
     for number, (row, effects) in enumerate(zip(rows, done), 1):
         due = WORD.findall(effects.text)
         for it in coded.get(str(number), []):
-            agree = is_part if it.does_more else list.__eq__
+            agree = is_part if it.does_more or label in BY_CASES else list.__eq__
             head = f"{label} {number}: the definition"
             if not agree(it.roles, row.roles):
                 yield f"{head} says {' '.join(row.roles)}, and the code {' '.join(it.roles)}"
             if not agree(it.words, due) and (label, number) not in PLAIN:
                 yield f"{head} has {' '.join(due)}, and the code {' '.join(it.words)}"
+            if not is_part(it.asked, row.asked) and (label, number) not in PLAIN:
+                yield f"{head} asks {' '.join(row.asked)}, and the code {' '.join(it.asked)}"
 
 
 def labels_of(shown: Shown) -> list[str]:
@@ -177,7 +179,7 @@ def late_in_code(at: dict[str, int]) -> Iterator[str]:
     for path, parts in groupby(parts_coded(), lambda it: it[0]):
         places = [(at[it], int(rows[0][0]), it) for _, it, rows in parts if rows and it in at]
         yield from (f"{path}: {one[2]} {one[1]} and {other[2]} {other[1]} stand in the pages the"
-                    " other way round" for one, other in pairwise(places) if one > other)
+                    " other way round" for one, other in pairwise(places) if one[:2] > other[:2])
 
 
 def faults() -> Iterator[str]:
@@ -205,10 +207,9 @@ def faults() -> Iterator[str]:
         for one, other in late_tables(places, tables):
             yield f"{path}: {one} and {other} stand in the pages the other way round"
     for label, names in noted.items():
-        if label not in BY_CASES:
-            rows = [it for name in names for it in words.get(name, [])]
-            done = [it for name in names for it in effects.get(name, [])]
-            yield from faults_of_code(label, rows, done, coded.get(label, {}))
+        rows = [it for name in names for it in words.get(name, [])]
+        done = [it for name in names for it in effects.get(name, [])]
+        yield from faults_of_code(label, rows, done, coded.get(label, {}))
     yield from late_in_code({table: places[it] for table, names in noted.items() for it in names
                              if it in places})
     yield from uncompared(pages, modelled, unlike)

@@ -41,6 +41,11 @@ ROLE = re.compile(r"\brole\.(\w+)")
 TYPE = re.compile(r"\b(Named|Verb|Ending)\.(?=[A-Z])")
 WORDS = {"Named": "name.", "Verb": "verb.", "Ending": "ending."}
 NUMBER = re.compile(r"(?<![\w.])(?!1\b|100\b)[1-9]\d*")
+# What names of tests and objects stand for, and the words of tests that code has too.
+MEANING = re.compile(
+    r"^ *\w+ pub (\w+) : (?:List \()?T(?:est|hing) [^→\n]+\n *\1( (?:.+\n)+)", re.MULTILINE)
+ASKED = re.compile(r"(?<=Named::)\w+|(?<=name\.)\w+|\b(?!PIRATE)[A-Z][A-Z_\d]{2,}\b|(?:(?<![.\w])|"
+                   r"(?<=\bis_)|(?<=\bhas_))(?:near|carried|(?:other_)?prop(?:_\w+)?|player_at)\b")
 Noted = dict[str, dict[str, None]]  # the names of the rows of each table that is noted
 Tables = dict[str, tuple[str, Sequence[str]]]  # each with its name and the words of its rows
 
@@ -67,11 +72,13 @@ class Shown(NamedTuple):
 
 
 class Words(NamedTuple):
-    """What a row says and asks: roles of messages, names of things; these and numbers of all."""
+    """What a row says and asks: roles of messages, names of things; these and numbers of all; and
+    the words of its tests, in order, with those of the tests and objects that they name."""
 
     roles: list[str]
     things: set[str]
     named: set[str]
+    asked: Sequence[str] = ()
 
 
 # ---- the definitions
@@ -129,9 +136,10 @@ def parts_of(texts: dict[str, str]) -> dict[str, set[str]]:
 
 
 def tests_of(row: str) -> str:
-    """What the tests of a row say: its first list; nothing for a last row."""
+    """What the tests of a row say: its first list, or the name of one; nothing for a last row."""
     head, _, rest = row.strip(" ()=∷+").partition(" ")
-    return bracket_of(rest) if rest.startswith("(") and not head.startswith("otherwise") else ""
+    tests = bracket_of(rest) if rest.startswith("(") else rest.partition(" ")[0]
+    return "" if head.startswith("otherwise") else tests
 
 
 def with_effects(text: str, effects: dict[str, str]) -> str:
@@ -158,7 +166,8 @@ def rows_in_words(defined: dict[str, list[Table]]) -> dict[str, list[Words]]:
     its tests, or of an effect of a list, and all objects and numbers above 1 that it has, without
     those of a list that has a table of its own."""
     shown = {name for it in tables_shown() for name in it.names}
-    short_names = dict(it for text in texts_defined().values() for it in SHORT_NAME.findall(text))
+    texts = "\n\n".join(texts_defined().values())
+    short_names, meant = dict(SHORT_NAME.findall(texts)), dict(MEANING.findall(texts))
     effects = defaultdict[str, dict[str, str]](dict)  # of each crate
     for path, tables in defined.items():
         effects[path.split("/")[1]] |= {it.name: it.text for it in tables if it.form == "effects"}
@@ -172,7 +181,8 @@ def rows_in_words(defined: dict[str, list[Table]]) -> dict[str, list[Words]]:
         found[table.name] = [
             Words(ROLE.findall(with_effects(row, lists).lower()),
                   things_in(tests_of(row), short_names),
-                  things_in(said := with_effects(row, own), short_names) | {*NUMBER.findall(said)})
+                  things_in(said := with_effects(row, own), short_names) | {*NUMBER.findall(said)},
+                  ASKED.findall(with_effects(tests_of(row), meant)))
             for row in table.rows]
     return found
 

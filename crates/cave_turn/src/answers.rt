@@ -1,26 +1,20 @@
 ghost use Rattle.std.specs.Prelude.{◌≡◌, ◌+◌, ◌<◌, ◌≤◌, []};
 ghost use Rattle.arrayvec.specs.ArrayVec.{array_vec_len};
 ghost use Rattle.turn_scene.specs.Bounds.{GoesOnSaying, HasRoom, MovesOnSaying, parts_of_arrival};
-ghost use Rattle.turn_scene.specs.Bounds.{parts_of_end, parts_of_finish, parts_of_question};
-ghost use Rattle.turn_scene.specs.Bounds.{parts_of_answer};
+ghost use Rattle.turn_scene.specs.Bounds.{parts_of_answer, parts_of_finish, parts_of_question};
 ghost use Rattle.turn_scene.specs.Scene.{scene_of, cave_of};
 ghost use Rattle.turn_ends.specs.Questions.{is_dragon};
-ghost use Rattle.turn_scene.specs.Rows.{Does};
-ghost use Rattle.cave_turn.specs.Answers.{answer_of, answer_in, quit, after_yes, after_no};
+ghost use Rattle.cave_turn.specs.Answers.{answer_of, answer_in, after_yes, after_no};
 ghost use Rattle.cave_turn.specs.Answers.{after_reply, is_of_hint, after_end_of_answer};
 ghost use Rattle.cave_turn.specs.Answers.{after_answer, answers, without_question, is_yes};
 
-use crate::dragon::fight;
 use crate::finish::end_turn;
-use crate::revival::{bury, come_back};
+use crate::{dragon, revival};
 use cave_words::Word;
 use cave_world::{
     CLUE_HINT, Charge, Ending, HintNumber, INSTRUCTIONS_HINT, Out, Question, RowNotes, State, Table,
 };
 use data_rows::Role;
-use turn_clocks::{give_hint, price};
-use turn_ends::{end_as, pose, question_row};
-use turn_moves::arrive;
 use turn_scene::{Rules, Scene, rows, start_place};
 
 /// What a line answers to a question.
@@ -91,58 +85,6 @@ pub fn close_question(state: &mut State)
     state.question = None;
 }
 
-#[tactic(auto, unfolding(crate::specs::Answers::quit))]
-fn quit<N: RowNotes>(rules: &Rules<'_>, question: &Question, scene: &mut Scene<'_, N>)
-    requires { HasRoom (1 + parts_of_end) scene.old }
-    ensures rows { Does N.rows quit (1 + parts_of_end) rules.now question.now scene.old scene.new }
-{
-    scene.say(Role::Ok);
-    end_as(rules, Ending::Quit, scene);
-}
-
-#[tactic(auto, unfolding(crate::specs::Answers::give_instructions))]
-fn do_yes<N: RowNotes>(rules: &Rules<'_>, question: &Question, scene: &mut Scene<'_, N>)
-    requires { HasRoom (parts_of_arrival scene.old.left + 1) scene.old }
-    ensures scene { scene_of N.rows scene.new
-        ≡ after_yes (cave_of rules.now) question.now (scene_of N.rows scene.old) }
-    ensures says { MovesOnSaying (parts_of_arrival scene.old.left + 1) scene.old scene.new }
-{
-    scene.note(Table::Yes, question_row(question));
-    match question {
-        Question::Welcome => {
-            scene.say(Role::Instructions);
-            scene.state.take_hint(HintNumber::new(INSTRUCTIONS_HINT));
-            scene.state.lamp.charge = Charge::new(INSTRUCTED_CHARGE);
-            arrive(rules, start_place(rules.cave), scene)
-        }
-        Question::Quit | Question::ScoreQuit => quit(rules, question, scene),
-        Question::Die => come_back(rules, scene),
-        Question::Hint(number) => price(rules, *number, scene),
-        Question::Take(number) => give_hint(rules, *number, scene),
-        Question::Oyster => {
-            scene.say(Role::OysterHint);
-            scene.state.take_hint(HintNumber::new(CLUE_HINT));
-        }
-        Question::Dragon => fight(rules, scene),
-    }
-}
-
-fn do_no<N: RowNotes>(rules: &Rules<'_>, question: &Question, scene: &mut Scene<'_, N>)
-    requires { HasRoom (parts_of_arrival scene.old.left + 1) scene.old }
-    ensures scene { scene_of N.rows scene.new
-        ≡ after_no (cave_of rules.now) question.now (scene_of N.rows scene.old) }
-    ensures says { MovesOnSaying (parts_of_arrival scene.old.left + 1) scene.old scene.new }
-{
-    scene.note(Table::No, question_row(question));
-    match question {
-        Question::Welcome => arrive(rules, start_place(rules.cave), scene),
-        Question::Quit | Question::ScoreQuit => scene.say(Role::Ok),
-        Question::Die => bury(rules, scene),
-        Question::Hint(_) | Question::Take(_) | Question::Oyster => scene.say(Role::Ok),
-        Question::Dragon => {}
-    }
-}
-
 #[tactic(auto, unfolding(crate::specs::Answers::reply_rows))]
 fn take_reply<N: RowNotes>(
     rules: &Rules<'_>,
@@ -164,10 +106,48 @@ fn take_reply<N: RowNotes>(
             close_question(scene.state);
             do_no(rules, question, scene);
         };
-        otherwise => {
-            scene.say(Role::Answer);
-            pose(rules, question, scene);
-        };
+        otherwise => say(Role::Answer), turn_ends::pose(rules, question);
+    }
+}
+
+#[tactic(auto, unfolding(crate::specs::Answers::give_instructions, crate::specs::Answers::quit))]
+fn do_yes<N: RowNotes>(rules: &Rules<'_>, question: &Question, scene: &mut Scene<'_, N>)
+    requires { HasRoom (parts_of_arrival scene.old.left + 1) scene.old }
+    ensures scene { scene_of N.rows scene.new
+        ≡ after_yes (cave_of rules.now) question.now (scene_of N.rows scene.old) }
+    ensures says { MovesOnSaying (parts_of_arrival scene.old.left + 1) scene.old scene.new }
+{
+    rows! { scene, Table::Yes;
+        let Question::Welcome = question => say(Role::Instructions),
+            take_hint(HintNumber::new(INSTRUCTIONS_HINT)),
+            set_charge(Charge::new(INSTRUCTED_CHARGE)),
+            turn_moves::arrive(rules, start_place(rules.cave));
+        let Question::Quit = question => say(Role::Ok), turn_ends::end_as(rules, Ending::Quit);
+        let Question::ScoreQuit = question => say(Role::Ok), turn_ends::end_as(rules, Ending::Quit);
+        let Question::Die = question => revival::come_back(rules);
+        let Question::Hint(number) = question => turn_clocks::price(rules, *number);
+        let Question::Take(number) = question => turn_clocks::give_hint(rules, *number);
+        let Question::Oyster = question
+            => say(Role::OysterHint), take_hint(HintNumber::new(CLUE_HINT));
+        let Question::Dragon = question => dragon::fight(rules);
+    }
+}
+
+fn do_no<N: RowNotes>(rules: &Rules<'_>, question: &Question, scene: &mut Scene<'_, N>)
+    requires { HasRoom (parts_of_arrival scene.old.left + 1) scene.old }
+    ensures scene { scene_of N.rows scene.new
+        ≡ after_no (cave_of rules.now) question.now (scene_of N.rows scene.old) }
+    ensures says { MovesOnSaying (parts_of_arrival scene.old.left + 1) scene.old scene.new }
+{
+    rows! { scene, Table::No;
+        let Question::Welcome = question => turn_moves::arrive(rules, start_place(rules.cave));
+        let Question::Quit = question => say(Role::Ok);
+        let Question::ScoreQuit = question => say(Role::Ok);
+        let Question::Die = question => revival::bury(rules);
+        let Question::Hint(_) = question => say(Role::Ok);
+        let Question::Take(_) = question => say(Role::Ok);
+        let Question::Oyster = question => say(Role::Ok);
+        let Question::Dragon = question => {};
     }
 }
 

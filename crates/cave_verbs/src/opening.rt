@@ -112,9 +112,7 @@ pub fn open<N: RowNotes>(rules: &Rules<'_>, task: Task, scene: &mut Scene<'_, N>
         rules.is(x, Named::Keys) => say(Role::KeysWhat);
         (is_grate || is_chain) && !has_keys => say(Role::NoKeys);
         is_grate => in open_or_lock_grate(rules, task, scene);
-        is_chain => in open_chain(rules, task, scene);
-        from 25;
-        otherwise => task.default(rules);
+        in open_or_lock_chain(rules, task, scene);
     }
 }
 
@@ -139,27 +137,29 @@ fn open_or_lock_grate<N: RowNotes>(rules: &Rules<'_>, task: Task, scene: &mut Sc
     }
 }
 
-/// OPEN or LOCK the chain, with the keys.
+/// OPEN or LOCK the chain, with the keys, or what has no row of its own.
 #[tactic(auto, unfolding(crate::specs::Opening::open_rows))]
-fn open_chain<N: RowNotes>(rules: &Rules<'_>, task: Task, scene: &mut Scene<'_, N>) -> Next
-    requires room { HasRoom parts_of_row scene.old }
-    requires chain { IsTrue (is_called (cave_of rules.now) task.object name.Chain) }
+fn open_or_lock_chain<N: RowNotes>(rules: &Rules<'_>, task: Task, scene: &mut Scene<'_, N>) -> Next
+    requires { HasRoom parts_of_row scene.old }
     ensures row { DoneByRows N.rows (noted_after table.Open 17 open_rows) rules.now task
         scene.old scene.new result }
 {
     let x = task.object;
     let bear = rules.thing(Named::Bear);
-    let is_opening = task.verb.is(Verb::Open);
+    let is_chain = rules.is(x, Named::Chain);
+    let opens = is_chain && task.verb.is(Verb::Open);
     rows! { scene, Table::Open, Next::Stay;
         from 18;
-        is_opening && has_prop(scene.state, x, CHAIN_UNLOCKED) => say(Role::WasUnlocked);
-        is_opening && has_prop(scene.state, bear, BEAR_WILD) => say(Role::BearBars);
-        is_opening && has_prop(scene.state, bear, BEAR_DEAD)
+        opens && has_prop(scene.state, x, CHAIN_UNLOCKED) => say(Role::WasUnlocked);
+        opens && has_prop(scene.state, bear, BEAR_WILD) => say(Role::BearBars);
+        opens && has_prop(scene.state, bear, BEAR_DEAD)
             => set_prop(x, CHAIN_UNLOCKED), loosen(x), fix(bear), say(Role::ChainFree);
-        is_opening => set_prop(x, CHAIN_UNLOCKED), loosen(x), set_prop(bear, BEAR_FREE),
-            loosen(bear), say(Role::ChainFree);
-        is_home_elsewhere(rules, scene.state, x) => say(Role::NoLockHere);
-        has_other_prop(scene.state, x, CHAIN_UNLOCKED) => say(Role::WasLocked);
-        otherwise => lay_down(rules, x), set_prop(x, CHAIN_LOCKED), fix(x), say(Role::ChainLock);
+        opens => set_prop(x, CHAIN_UNLOCKED), loosen(x), set_prop(bear, BEAR_FREE), loosen(bear),
+            say(Role::ChainFree);
+        is_chain && is_home_elsewhere(rules, scene.state, x) => say(Role::NoLockHere);
+        is_chain && has_other_prop(scene.state, x, CHAIN_UNLOCKED) => say(Role::WasLocked);
+        is_chain
+            => lay_down(rules, x), set_prop(x, CHAIN_LOCKED), fix(x), say(Role::ChainLock);
+        otherwise => task.default(rules);
     }
 }

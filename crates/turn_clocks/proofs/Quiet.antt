@@ -18,7 +18,7 @@ use Rattle.turn_clocks.proofs.Steps.{hints_up_to, starts_anew, waits}
 
 -- if the player is outside and no turn counts, neither of the two rows fits
 no_row_outside : (a b c t : Bool) (x y z : Act (Unit {0})) → c ≡ false → t ≡ false
-    → (if a && (b && (not c && (t && true))) then x else (if a && (b && (c && true)) then y else z))
+    → (if a && (b && (t && (not c && true))) then x else (if a && (b && (c && true)) then y else z))
     ≡ z
 no_row_outside true true true t x y z far none = absurd (true≢false far)
 no_row_outside true true false true x y z far none = absurd (true≢false none)

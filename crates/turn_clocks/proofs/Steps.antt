@@ -31,7 +31,7 @@ waits d =
 
 -- a row whose first test fails doesn't fit
 no_row : (a b c t : Bool) (x y z : Act (Unit {0})) → a ≡ false
-    → (if a && (b && (not c && (t && true))) then x else (if a && (b && (c && true)) then y else z))
+    → (if a && (b && (t && (not c && true))) then x else (if a && (b && (c && true)) then y else z))
     ≡ z
 no_row true b c t x y z fails = absurd (true≢false fails)
 no_row false b c t x y z fails = refl

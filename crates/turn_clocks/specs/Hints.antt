@@ -140,7 +140,7 @@ offer_rows =
 -- is offered
 unfoldable pub hint_rows : List (Row ℕ (Unit {0}))
 hint_rows =
-    plain_row (cave_has_it ∷ no (has_hint it) ∷ no in_area ∷ has_turns ∷ []) (restart ∷ [])
+    plain_row (cave_has_it ∷ no (has_hint it) ∷ has_turns ∷ no in_area ∷ []) (restart ∷ [])
     ∷ plain_row (cave_has_it ∷ no (has_hint it) ∷ in_area ∷ [])
     (count_turn ∷ by_table table.Offers offer_rows ∷ [])
     ∷ []

@@ -4,11 +4,13 @@ ghost use Rattle.turn_scene.specs.Bounds.{GoesOnSaying, HasRoom, parts_of_clocks
 ghost use Rattle.turn_scene.specs.Rows.{act_of, PlaysBy};
 ghost use Rattle.turn_clocks.specs.Clocks.{tick_clocks, run_clocks};
 
-use crate::first_clock::{self, first_clock_runs};
+use crate::first_clock::{dismiss_all, dismiss_bear, first_clock_runs};
 use crate::lamp::run_lamp;
 use crate::repository::close_cave;
+use cave_words::Named;
 use cave_world::{RowNotes, Table};
-use data_rows::PlaceRole;
+use data_rows::{PlaceRole, Role};
+use turn_scene::props::{AXE_FREE, CHAIN_UNLOCKED, FISSURE_OPEN, GRATE_LOCKED};
 use turn_scene::{Rules, Scene, is_bound, rows};
 use world_objects::Place;
 
@@ -38,7 +40,7 @@ pub fn run_clocks<N: RowNotes>(rules: &Rules<'_>, scene: &mut Scene<'_, N>) -> C
 }
 
 /// One of the clocks goes on by a turn, if one runs. Returns whether that closed the cave.
-#[tactic(auto, unfolding(crate::specs::Clocks::tick_clocks, crate::specs::Clocks::clock_rows))]
+#[tactic(auto, unfolding(crate::specs::Clocks::tick_clocks, crate::specs::Clocks::clock_rows, crate::specs::FirstClock::begin_closing))]
 fn tick_clocks<N: RowNotes>(rules: &Rules<'_>, scene: &mut Scene<'_, N>) -> bool
     requires { HasRoom 1 scene.old }
     ensures clock { PlaysBy N.rows tick_clocks 1 rules.now tt scene.old scene.new result }
@@ -46,7 +48,22 @@ fn tick_clocks<N: RowNotes>(rules: &Rules<'_>, scene: &mut Scene<'_, N>) -> bool
     rows! { scene, Table::Clocks, false;
         let runs = first_clock_runs(rules, scene);
         let first_clock = scene.state.closing.first_clock;
-        runs && first_clock == 1 => first_clock::begin_closing(rules);
+        runs && first_clock == 1 => {
+            let chain = rules.thing(Named::Chain);
+            let axe = rules.thing(Named::Axe);
+            scene.set_prop(rules.thing(Named::Grate), GRATE_LOCKED);
+            scene.set_prop(rules.thing(Named::Fissure), FISSURE_OPEN);
+            dismiss_all(&mut scene.state.dwarves.each);
+            scene.troll_goes(rules);
+            dismiss_bear(rules, scene);
+            scene.set_prop(chain, CHAIN_UNLOCKED);
+            scene.loosen(chain);
+            scene.set_prop(axe, AXE_FREE);
+            scene.loosen(axe);
+            scene.say(Role::Closing);
+            scene.state.closing.first_clock = -1;
+            scene.state.closing.is_closing = true;
+        };
         runs => { scene.state.closing.first_clock -= 1; };
         let second_clock = scene.state.closing.second_clock;
         first_clock == -1 && second_clock == 1 && !scene.state.closing.is_closed

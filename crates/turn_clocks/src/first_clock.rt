@@ -1,16 +1,16 @@
 ghost use Rattle.std.specs.Prelude.{◌≡◌, ◌≤ℤ◌, pos, IsTrue, map, [], ◌∷◌};
 ghost use Rattle.data_rows.specs.declared.place_role.PlaceRole.TheVariants as place;
 ghost use Rattle.turn_scene.specs.Scene.{cave_of, scene_of};
-ghost use Rattle.turn_scene.specs.Bounds.{HasRoom};
-ghost use Rattle.turn_scene.specs.Rows.{all_hold, deed, Does};
+ghost use Rattle.cave_world.specs.declared.tables.Table.TheVariants as table;
+ghost use Rattle.turn_scene.specs.Rows.{all_hold, by_table, deed, Does};
 ghost use Rattle.turn_scene.specs.Tests.{no, player_at, in_the_depths};
 ghost use Rattle.turn_clocks.specs.FirstClock.{all_seen, some_turns_left, dismissed_dwarf};
-ghost use Rattle.turn_clocks.specs.FirstClock.{begin_closing};
+ghost use Rattle.turn_clocks.specs.FirstClock.{closing_bear_rows};
 
 use cave_words::Named;
 use cave_world::{Dwarf, RowNotes, Table};
-use data_rows::{PlaceRole, Role};
-use turn_scene::props::{AXE_FREE, BEAR_DEAD, CHAIN_UNLOCKED, FISSURE_OPEN, GRATE_LOCKED};
+use data_rows::PlaceRole;
+use turn_scene::props::BEAR_DEAD;
 use turn_scene::{Rules, Scene, has_prop, is_in_the_depths, is_player_at, rows};
 use world_objects::Place;
 
@@ -35,7 +35,8 @@ fn dismiss(dwarf: &mut Dwarf)
     dwarf.has_seen = false;
 }
 
-fn dismiss_all(dwarves: &mut [Dwarf])
+/// All dwarves are gone.
+pub fn dismiss_all(dwarves: &mut [Dwarf])
     ensures { dwarves.new ≡ map dismissed_dwarf dwarves.old }
 {
     for dwarf in dwarves.iter_mut() {
@@ -43,28 +44,15 @@ fn dismiss_all(dwarves: &mut [Dwarf])
     }
 }
 
-/// The ways are barred, dwarves, troll and bear are gone, and nothing holds the chain and the axe.
-#[tactic(auto, unfolding(crate::specs::FirstClock::begin_closing, crate::specs::FirstClock::closing_bear_rows))]
-pub fn begin_closing<N: RowNotes>(rules: &Rules<'_>, scene: &mut Scene<'_, N>)
-    requires { HasRoom 1 scene.old }
-    ensures scene { Does N.rows begin_closing 1 rules.now tt scene.old scene.new }
+/// The bear vanishes, unless it is dead.
+#[tactic(auto, unfolding(crate::specs::FirstClock::closing_bear_rows))]
+pub fn dismiss_bear<N: RowNotes>(rules: &Rules<'_>, scene: &mut Scene<'_, N>)
+    ensures rows { Does N.rows (by_table table.ClosingBear closing_bear_rows ∷ []) 0 rules.now tt
+        scene.old scene.new }
 {
-    let chain = rules.thing(Named::Chain);
-    let axe = rules.thing(Named::Axe);
     let bear = rules.thing(Named::Bear);
-    scene.set_prop(rules.thing(Named::Grate), GRATE_LOCKED);
-    scene.set_prop(rules.thing(Named::Fissure), FISSURE_OPEN);
-    dismiss_all(&mut scene.state.dwarves.each);
-    scene.troll_goes(rules);
     rows! { scene, Table::ClosingBear;
         has_prop(scene.state, bear, BEAR_DEAD) => {};
         otherwise => destroy(bear);
     }
-    scene.set_prop(chain, CHAIN_UNLOCKED);
-    scene.loosen(chain);
-    scene.set_prop(axe, AXE_FREE);
-    scene.loosen(axe);
-    scene.say(Role::Closing);
-    scene.state.closing.first_clock = -1;
-    scene.state.closing.is_closing = true;
 }

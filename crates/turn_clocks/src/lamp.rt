@@ -1,8 +1,8 @@
 ghost use Rattle.std.specs.Prelude.{[], ◌∷◌};
 ghost use Rattle.turn_scene.specs.Bounds.{HasRoom};
-ghost use Rattle.turn_scene.specs.Rows.{Does, PlaysBy};
-ghost use Rattle.turn_clocks.specs.Lamp.{burn, care_for_lamp, change_batteries, go_out};
-ghost use Rattle.turn_clocks.specs.Lamp.{lamp_clock, warn};
+ghost use Rattle.cave_world.specs.declared.tables.Table.TheVariants as table;
+ghost use Rattle.turn_scene.specs.Rows.{by_table, Does, PlaysBy};
+ghost use Rattle.turn_clocks.specs.Lamp.{burn, care_for_lamp, go_out, lamp_clock, warning_rows};
 
 use crate::clocks::Clocks;
 use cave_words::Named;
@@ -26,31 +26,16 @@ fn burn<N: RowNotes>(rules: &Rules<'_>, scene: &mut Scene<'_, N>)
     }
 }
 
-/// The lamp gets new batteries.
-#[tactic(auto, unfolding(crate::specs::Lamp::change_batteries))]
-fn change_batteries<N: RowNotes>(rules: &Rules<'_>, scene: &mut Scene<'_, N>)
-    requires { HasRoom 1 scene.old }
-    ensures effects { Does N.rows change_batteries 1 rules.now tt scene.old scene.new }
-{
-    let batteries = rules.thing(Named::Batteries);
-    scene.say(Role::Replaced);
-    scene.set_prop(batteries, BATTERIES_USED);
-    scene.lay_down(rules, batteries);
-    let turns = scene.state.lamp.charge.turns();
-    scene.state.lamp.charge = Charge::capped(turns + BATTERY_TURNS);
-    scene.state.lamp.is_warned = false;
-}
-
 /// The lamp has gone out, and can't be lit again.
 fn go_out<N: RowNotes>(rules: &Rules<'_>, scene: &mut Scene<'_, N>)
     ensures scene { Does N.rows (go_out ∷ []) 0 rules.now tt scene.old scene.new }
 {
-    scene.state.lamp.charge = Charge::new(-1);
+    scene.set_charge(Charge::new(-1));
     scene.set_prop(rules.thing(Named::Lamp), LAMP_OFF);
 }
 
 /// What happens after the lamp has burnt.
-#[tactic(auto, unfolding(crate::specs::Lamp::care_for_lamp, crate::specs::Lamp::lamp_rows))]
+#[tactic(auto, unfolding(crate::specs::Lamp::care_for_lamp, crate::specs::Lamp::lamp_rows, crate::specs::Lamp::change_batteries, crate::specs::Lamp::warn))]
 fn care_for_lamp<N: RowNotes>(rules: &Rules<'_>, scene: &mut Scene<'_, N>) -> Clocks
     requires { HasRoom 1 scene.old }
     ensures row { PlaysBy N.rows care_for_lamp 1 rules.now tt scene.old scene.new result }
@@ -60,26 +45,36 @@ fn care_for_lamp<N: RowNotes>(rules: &Rules<'_>, scene: &mut Scene<'_, N>) -> Cl
     rows! { scene, Table::Lamp, Clocks::GoOn;
         is_low && is_near(rules, scene.state, rules.thing(Named::Batteries))
             && has_prop(scene.state, rules.thing(Named::Batteries), BATTERIES_FRESH)
-            && is_near(rules, scene.state, rules.thing(Named::Lamp))
-            => self::change_batteries(rules);
+            && is_near(rules, scene.state, rules.thing(Named::Lamp)) => {
+            let batteries = rules.thing(Named::Batteries);
+            scene.say(Role::Replaced);
+            scene.set_prop(batteries, BATTERIES_USED);
+            scene.lay_down(rules, batteries);
+            let turns = scene.state.lamp.charge.turns();
+            scene.set_charge(Charge::capped(turns + BATTERY_TURNS));
+            scene.state.lamp.is_warned = false;
+        };
         turns == 0 && is_near(rules, scene.state, rules.thing(Named::Lamp))
             => self::go_out(rules), say(Role::LampDead);
         turns == 0 => self::go_out(rules);
         turns < 0 && scene.state.trail.here.number() <= outside_place(rules.cave).number()
             => say(Role::GiveUp) -> Clocks::GaveUp;
         is_low && !scene.state.lamp.is_warned
-            && is_near(rules, scene.state, rules.thing(Named::Lamp)) => self::warn(rules);
+            && is_near(rules, scene.state, rules.thing(Named::Lamp)) => {
+            scene.state.lamp.is_warned = true;
+            warn(rules, scene);
+        };
     }
 }
 
-/// The player is warned that the lamp is low.
-#[tactic(auto, unfolding(crate::specs::Lamp::warn, crate::specs::Lamp::warning_rows))]
+/// The player is told that the lamp is low.
+#[tactic(auto, unfolding(crate::specs::Lamp::warning_rows))]
 fn warn<N: RowNotes>(rules: &Rules<'_>, scene: &mut Scene<'_, N>)
     requires { HasRoom 1 scene.old }
-    ensures effects { Does N.rows warn 1 rules.now tt scene.old scene.new }
+    ensures rows { Does N.rows (by_table table.LampWarning warning_rows ∷ []) 1 rules.now tt
+        scene.old scene.new }
 {
     let batteries = rules.thing(Named::Batteries);
-    scene.state.lamp.is_warned = true;
     rows! { scene, Table::LampWarning;
         has_prop(scene.state, batteries, BATTERIES_USED) => say(Role::LampLowUsed);
         scene.state.is_gone(batteries) => say(Role::LampLowFind);

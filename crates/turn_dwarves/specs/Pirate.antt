@@ -85,14 +85,6 @@ message = the name.Message
 unfoldable pub take_booty : List (Effect (Unit {0}))
 take_booty = send message place.Message ∷ steal_all ∷ go_home ∷ []
 
-unfoldable pub hide_chest : List (Effect (Unit {0}))
-hide_chest =
-    say role.ChestHid
-    ∷ send chest place.Chest
-    ∷ send message place.Message
-    ∷ go_home
-    ∷ []
-
 -- the pirate
 abbrev pub pirate : Deed (Unit {0}) → Dwarf
 pirate d = dwarf_of d.scene.state PIRATE
@@ -113,7 +105,8 @@ pirate_rows =
     (say role.Booty ∷ send chest place.Chest ∷ take_booty)
     ∷ plain_row (carries_booty ∷ []) (say role.Booty ∷ take_booty)
     ∷ plain_row (no treasure_near ∷ one_left ∷ nowhere chest ∷ near (the name.Lamp)
-    ∷ prop (the name.Lamp) LAMP_ON ∷ []) hide_chest
+    ∷ prop (the name.Lamp) LAMP_ON ∷ [])
+    (say role.ChestHid ∷ send chest place.Chest ∷ send message place.Message ∷ go_home ∷ [])
     ∷ chance_row (pirate_came ∷ []) (percent 20) (say role.Rustle ∷ [])
     ∷ []
 

@@ -3,10 +3,10 @@ ghost use Rattle.turn_scene.specs.Bounds.{GoesOnSaying, HasRoom};
 ghost use Rattle.turn_scene.specs.Scene.{scene_of, cave_of};
 ghost use Rattle.turn_scene.specs.Rows.{Does, by_table};
 ghost use Rattle.cave_world.specs.declared.tables.Table.TheVariants as table;
-ghost use Rattle.turn_dwarves.specs.Pirate.{pirate_rows, chase_rows, hide_chest, after_pirate};
+ghost use Rattle.turn_dwarves.specs.Pirate.{pirate_rows, chase_rows, after_pirate};
 
 use crate::band::dwarf_of;
-use crate::booty::{carries_booty, go_home, is_treasure_near};
+use crate::booty::{carries_booty, is_treasure_near};
 use crate::{booty, moving};
 use cave_words::Named;
 use cave_world::{LAMP_ON, PIRATE, RowNotes, Table, Tallies};
@@ -66,20 +66,10 @@ fn meet_pirate<N: RowNotes>(rules: &Rules<'_>, scene: &mut Scene<'_, N>)
         let lamp = rules.thing(Named::Lamp);
         !is_treasure_near(rules, scene) && is_one_left(&scene.state.tallies)
             && scene.state.is_gone(rules.thing(Named::Chest)) && is_near(rules, scene.state, lamp)
-            && has_prop(scene.state, lamp, LAMP_ON) => self::hide_chest(rules);
+            && has_prop(scene.state, lamp, LAMP_ON)
+            => say(Role::ChestHid), send(rules, rules.thing(Named::Chest), PlaceRole::Chest),
+            send(rules, rules.thing(Named::Message), PlaceRole::Message), booty::go_home(rules);
         let pirate = dwarf_of(scene.state, PIRATE);
         pirate.last != pirate.place && scene.happens(20) => say(Role::Rustle);
     }
-}
-
-/// The pirate hides its chest, and leaves its message.
-#[tactic(auto, unfolding(crate::specs::Pirate::hide_chest))]
-fn hide_chest<N: RowNotes>(rules: &Rules<'_>, scene: &mut Scene<'_, N>)
-    requires { HasRoom 1 scene.old }
-    ensures effects { Does N.rows hide_chest 1 rules.now tt scene.old scene.new }
-{
-    scene.say(Role::ChestHid);
-    scene.send(rules, rules.thing(Named::Chest), PlaceRole::Chest);
-    scene.send(rules, rules.thing(Named::Message), PlaceRole::Message);
-    go_home(rules, scene);
 }

@@ -55,26 +55,6 @@ pub fn question_row(question: &Question) -> u8
     }
 }
 
-/// Prints the message of a question.
-pub fn pose<N: RowNotes>(rules: &Rules<'_>, question: &Question, scene: &mut Scene<'_, N>)
-    requires { HasRoom 1 scene.old }
-    ensures scene { scene_of N.rows scene.new
-        ≡ after_question (cave_of rules.now) question.now (scene_of N.rows scene.old) }
-    ensures says { GoesOnSaying 1 scene.old scene.new }
-{
-    scene.note(Table::Questions, question_row(question));
-    match question {
-        Question::Welcome => scene.say(Role::Welcome),
-        Question::Quit => scene.say(Role::Quit),
-        Question::ScoreQuit => scene.say(Role::ScoreQuit),
-        Question::Die => tell_die(rules, scene),
-        Question::Hint(hint) => offer_hint(rules.cave, *hint, scene),
-        Question::Take(_) => scene.say(Role::HintTake),
-        Question::Oyster => scene.say(Role::OysterAsk),
-        Question::Dragon => scene.say(Role::WithWhat),
-    }
-}
-
 /// Prints the score up to now, and the greatest score.
 fn tell_score_now<N: RowNotes>(rules: &Rules<'_>, scene: &mut Scene<'_, N>)
     requires { HasRoom 1 scene.old }
@@ -96,25 +76,28 @@ fn begin_asking<N: RowNotes>(rules: &Rules<'_>, question: &Question, scene: &mut
         rules.now question.now scene.old scene.new }
 {
     rows! { scene, Table::Asking;
-        matches!(question, Question::ScoreQuit) => {
-            tell_score_now(rules, scene);
-            pose(rules, question, scene);
-        };
-        otherwise => { pose(rules, question, scene); };
+        let Question::ScoreQuit = question => self::tell_score_now(rules), self::pose(rules, question);
+        otherwise => self::pose(rules, question);
     }
 }
 
-/// Asks a question, which the next line answers.
-#[tactic(auto, unfolding(crate::specs::Questions::after_ask, crate::specs::Questions::ask_question, cave_world::specs::State::takes_no_command))]
-pub fn ask<N: RowNotes>(rules: &Rules<'_>, question: &Question, scene: &mut Scene<'_, N>)
-    requires { HasRoom parts_of_question scene.old }
+/// Prints the message of a question.
+pub fn pose<N: RowNotes>(rules: &Rules<'_>, question: &Question, scene: &mut Scene<'_, N>)
+    requires { HasRoom 1 scene.old }
     ensures scene { scene_of N.rows scene.new
-        ≡ after_ask (cave_of rules.now) question.now (scene_of N.rows scene.old) }
-    ensures says { GoesOnSaying parts_of_question scene.old scene.new }
-    ensures over { IsTrue (takes_no_command scene.new.state.now) }
+        ≡ after_question (cave_of rules.now) question.now (scene_of N.rows scene.old) }
+    ensures says { GoesOnSaying 1 scene.old scene.new }
 {
-    begin_asking(rules, question, scene);
-    set_question(question, scene.state);
+    rows! { scene, Table::Questions;
+        let Question::Welcome = question => say(Role::Welcome);
+        let Question::Quit = question => say(Role::Quit);
+        let Question::ScoreQuit = question => say(Role::ScoreQuit);
+        let Question::Die = question => self::tell_die(rules);
+        let Question::Hint(hint) = question => self::offer_hint(rules.cave, *hint);
+        let Question::Take(_) = question => say(Role::HintTake);
+        let Question::Oyster = question => say(Role::OysterAsk);
+        let Question::Dragon = question => say(Role::WithWhat);
+    }
 }
 
 /// A player who has died is asked whether to come back.
@@ -130,6 +113,19 @@ fn tell_die<N: RowNotes>(rules: &Rules<'_>, scene: &mut Scene<'_, N>)
         deaths == 1 => say(Role::Die2);
         otherwise => say(Role::Die3);
     }
+}
+
+/// Asks a question, which the next line answers.
+#[tactic(auto, unfolding(crate::specs::Questions::after_ask, crate::specs::Questions::ask_question, cave_world::specs::State::takes_no_command))]
+pub fn ask<N: RowNotes>(rules: &Rules<'_>, question: &Question, scene: &mut Scene<'_, N>)
+    requires { HasRoom parts_of_question scene.old }
+    ensures scene { scene_of N.rows scene.new
+        ≡ after_ask (cave_of rules.now) question.now (scene_of N.rows scene.old) }
+    ensures says { GoesOnSaying parts_of_question scene.old scene.new }
+    ensures over { IsTrue (takes_no_command scene.new.state.now) }
+{
+    begin_asking(rules, question, scene);
+    set_question(question, scene.state);
 }
 
 fn set_question(question: &Question, state: &mut State)

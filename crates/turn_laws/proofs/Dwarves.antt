@@ -12,7 +12,7 @@ use Rattle.cave_words.specs.Stream.{next}
 use Rattle.turn_dwarves.specs.Ahead.{ways_of_dwarf}
 use Rattle.cave_world.specs.Limits.{PIRATE}
 use Rattle.turn_dwarves.specs.Band.{dwarf_of, gone, with_anger, with_dwarf}
-use Rattle.turn_dwarves.specs.Pirate.{after_stealing, after_stealing_all, hide_chest, take_booty}
+use Rattle.turn_dwarves.specs.Pirate.{after_stealing, after_stealing_all, take_booty}
 use Rattle.turn_dwarves.specs.Pirate.{theft_rows, with_pirate_home, after_pirate, chase_rows}
 use Rattle.turn_dwarves.specs.Pirate.{move_pirate, pirate_rows, pirate_turn_rows}
 use Rattle.turn_dwarves.specs.Dwarves.{anger_rows, awake, encounter_dwarves}
@@ -180,7 +180,7 @@ module _ {game : CaveView} {l : Line} {Q P : Claim} (k : IsKept game l Q P) wher
   home_kept cave s h = dwarf_kept PIRATE _ s (λ _ low _. absurd (not_low low)) h
 
   pirate_kept : (cave : CaveView) (p : Scene) → On R p.state → On R (after_pirate cave p).state
-  unfolding after_pirate pirate_turn_rows chase_rows pirate_rows take_booty hide_chest
+  unfolding after_pirate pirate_turn_rows chase_rows pirate_rows take_booty
   pirate_kept cave p h =
       quiet R (noted table.PirateTurn pirate_turn_rows) (search moved parts 20) (deed cave tt p) h
     where

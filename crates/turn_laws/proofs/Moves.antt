@@ -22,7 +22,7 @@ use Rattle.data_rows.specs.declared.targets.Destination.TheVariants.{PutsEmerald
 use Rattle.data_rows.specs.declared.targets.Special.TheVariants.{Bridge, Squeeze}
 use Rattle.turn_moves.specs.Arrival.{after_arrival, after_forced_motions, after_description}
 use Rattle.turn_moves.specs.Arrival.{stop_at}
-use Rattle.turn_moves.specs.Bridge.{break_bridge, bridge_rows, cross_bridge, demand_toll}
+use Rattle.turn_moves.specs.Bridge.{break_bridge, bridge_rows, cross_bridge}
 use Rattle.turn_moves.specs.Bridge.{pass_troll, spices_rows, toll_rows}
 use Rattle.turn_moves.specs.Back.{back_rows, go_back, place_back}
 use Rattle.turn_moves.specs.Journeys.{enough_rows, journey_by, journey_by_request, journey_by_rows}
@@ -108,7 +108,7 @@ module _ {cave : CaveView} {l : Line} {Q P : Claim} (k : IsKept cave l Q P) wher
 
   -- a player whom the troll lets pass crosses, or the troll asks for a treasure
   bridged_kept : (p : Scene) → On R p.state → On P (cross_bridge (deed cave tt p)).scene.state
-  unfolding cross_bridge bridge_rows demand_toll
+  unfolding cross_bridge bridge_rows
   bridged_kept p h =
       guarded (λ (a : Act ℕ). On P a.scene.state) (nothing_but here) (deed cave tt p)
       (noted table.Bridge bridge_rows)

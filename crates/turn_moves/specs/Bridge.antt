@@ -27,18 +27,6 @@ bridge d =
     (bridgehead (second_home_of (the name.Troll) d))
     else None
 
--- the troll asks for a treasure again, at both ends of the bridge
-unfoldable pub demand_toll : List (Effect (Unit {0}))
-demand_toll =
-    look (the name.Troll) TROLL_RETURNING
-    ∷ set_prop (the name.Troll) TROLL_CALM
-    ∷ destroy (the name.SecondTroll)
-    ∷ loosen (the name.SecondTroll)
-    ∷ move (the name.Troll) (home_of (the name.Troll))
-    ∷ attach (the name.Troll) (λ d. hold_of d.cave (thing d.cave name.Troll))
-    ∷ juggle (the name.Chasm)
-    ∷ []
-
 -- a player whom the troll lets pass is stopped the next time
 unfoldable pub toll_rows : List (Row (Unit {0}) (Unit {0}))
 toll_rows =
@@ -70,12 +58,17 @@ break_bridge =
 abbrev pub bear_comes_along : Test (Unit {0})
 bear_comes_along d = carried (the name.Bear) (pass_troll d)
 
--- a missing way or the troll holds the player back; the bridge bears the player, but not the bear
--- too
+-- a missing way holds the player back, or the troll, who asks for a treasure again, at both ends of
+-- the bridge; the bridge bears the player, but not the bear too
 unfoldable pub bridge_rows : List (Row (Unit {0}) ℕ)
 bridge_rows =
     row_then (no (passable bridge) ∷ []) (say role.NoWay ∷ []) here
-    ∷ row_then (prop (the name.Troll) TROLL_RETURNING ∷ []) demand_toll here
+    ∷ row_then (prop (the name.Troll) TROLL_RETURNING ∷ [])
+    (look (the name.Troll) TROLL_RETURNING ∷ set_prop (the name.Troll) TROLL_CALM
+    ∷ destroy (the name.SecondTroll) ∷ loosen (the name.SecondTroll)
+    ∷ move (the name.Troll) (home_of (the name.Troll))
+    ∷ attach (the name.Troll) (λ d. hold_of d.cave (thing d.cave name.Troll))
+    ∷ juggle (the name.Chasm) ∷ []) here
     ∷ row_then (no bear_comes_along ∷ []) (pass_troll ∷ []) (end_of bridge)
     ∷ otherwise_then (pass_troll ∷ break_bridge) here
 

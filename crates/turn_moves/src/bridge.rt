@@ -1,8 +1,7 @@
 //! The bridge that a troll guards.
 
 ghost use Rattle.std.specs.Prelude.{◌≡◌, false, Some, IsTrue, if◌then◌else◌};
-ghost use Rattle.turn_moves.specs.Bridge.{bridgehead, bridge, demand_toll};
-ghost use Rattle.turn_moves.specs.Bridge.{break_bridge, cross_bridge};
+ghost use Rattle.turn_moves.specs.Bridge.{bridgehead, bridge, break_bridge, cross_bridge};
 ghost use Rattle.turn_scene.specs.Rows.{Does, PlaysBy, deed};
 ghost use Rattle.cave_world.specs.declared.tables.Table.TheVariants as table;
 ghost use Rattle.cave_words.specs.declared.named.Named.TheVariants as name;
@@ -41,8 +40,12 @@ pub fn cross_bridge<N: RowNotes>(rules: &Rules<'_>, scene: &mut Scene<'_, N>) ->
         },
         Some(end) => rows! { scene, Table::Bridge;
             from 2;
-            has_prop(scene.state, rules.thing(Named::Troll), TROLL_RETURNING)
-                => self::demand_toll(rules) -> scene.state.trail.here;
+            let troll = rules.thing(Named::Troll);
+            has_prop(scene.state, troll, TROLL_RETURNING)
+                => look(troll, TROLL_RETURNING), set_prop(troll, TROLL_CALM),
+                destroy(rules.thing(Named::SecondTroll)), loosen(rules.thing(Named::SecondTroll)),
+                move_to(troll, home(rules, troll)), attach(troll, hold(rules, troll)),
+                juggle(rules.thing(Named::Chasm)) -> scene.state.trail.here;
             let was_calm = pass_troll(rules, scene.state);
             !is_carried(rules, scene.state, rules.thing(Named::Bear))
                 => self::note_toll(was_calm) -> end;
@@ -73,23 +76,6 @@ fn bridge<N: RowNotes>(rules: &Rules<'_>, scene: &Scene<'_, N>) -> Option<Place>
         bridgehead(home(rules, troll)),
         bridgehead(second_home(rules, troll)),
     )
-}
-
-/// The troll asks for a treasure again, at both ends of the bridge.
-#[tactic(auto, unfolding(crate::specs::Bridge::demand_toll))]
-fn demand_toll<N: RowNotes>(rules: &Rules<'_>, scene: &mut Scene<'_, N>)
-    requires { HasRoom 1 scene.old }
-    ensures scene { Does N.rows demand_toll 1 rules.now tt scene.old scene.new }
-{
-    let troll = rules.thing(Named::Troll);
-    let second = rules.thing(Named::SecondTroll);
-    scene.look(troll, TROLL_RETURNING);
-    scene.set_prop(troll, TROLL_CALM);
-    scene.destroy(second);
-    scene.loosen(second);
-    scene.move_to(troll, home(rules, troll));
-    scene.attach(troll, hold(rules, troll));
-    scene.juggle(rules.thing(Named::Chasm));
 }
 
 /// A player whom the troll lets pass is stopped the next time. Returns whether the troll was calm.

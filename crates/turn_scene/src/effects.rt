@@ -1,7 +1,7 @@
 //! What rows do to a scene, by the words of the definitions.
 
 ghost use Rattle.cave_world.specs.State.{with_hint_taken};
-ghost use Rattle.turn_scene.specs.Effects.{Changes, after_sending};
+ghost use Rattle.turn_scene.specs.Effects.{Changes, after_sending, with_charge};
 ghost use Rattle.turn_scene.specs.Parts.{with_objects, with_one_more_lost};
 ghost use Rattle.turn_scene.specs.Places.{place_named};
 ghost use Rattle.turn_scene.specs.Scene.{cave_of};
@@ -12,7 +12,7 @@ ghost use Rattle.world_objects.specs.declared.spot.Anchor.TheVariants as anchor_
 use crate::places::place_named;
 use crate::rules::Rules;
 use crate::scene::Scene;
-use cave_world::{HintNumber, RowNotes};
+use cave_world::{Charge, HintNumber, RowNotes};
 use data_rows::PlaceRole;
 use world_objects::{Anchor, Object, Place, Prop};
 
@@ -109,6 +109,13 @@ impl<'a, N: RowNotes> Scene<'a, N> {
         ensures { Changes N.rows with_one_more_lost self.old self.new }
     {
         self.state.tallies.lost = self.state.tallies.lost.up();
+    }
+
+    /// The lamp burns for this many turns from now on.
+    pub fn set_charge(&mut self, charge: Charge)
+        ensures { Changes N.rows (with_charge charge) self.old self.new }
+    {
+        self.state.lamp.charge = charge;
     }
 
     /// A hint is taken.

@@ -11,10 +11,10 @@
 ///
 /// An effect is a method of the scene, or what takes the scene last: a method of something else, or
 /// a function named by its module, such as `lamp::go_out(rules)`. A block in place of effects is
-/// plain code: `{}` does nothing. Between rows, `let` names what those below it ask, `from 8` gives
-/// the next row its number, and what stands after `in` has rows of its own, and takes no number.
-/// Each list of numbers below is for a part of a table that begins with its first number: such a
-/// part has at most as many rows as the list has numbers.
+/// plain code: `{}` does nothing. A test can be a `let`, whose pattern names what the effects ask.
+/// Between rows, `let` names what those below it ask, `from 8` gives the next row its number, and
+/// what stands after `in` has rows of its own, and takes no number. `@after` has what follows each
+/// number, so a table has at most 25 rows.
 #[macro_export]
 macro_rules! rows {
     (@effect $scene:ident $word:ident ($($arg:expr),*)) => { $scene.$word($($arg),*) };
@@ -34,52 +34,70 @@ macro_rules! rows {
         $body
         $crate::rows!(@follows $then $(, $own)?)
     }};
-    (@rows ($scene:ident $table:expr, $then:expr) $numbers:tt) => { $then };
-    (@rows $head:tt $numbers:tt from $first:tt; $($rows:tt)*) => {
-        $crate::rows!(@from $first $head $($rows)*)
+    (@rows ($scene:ident $table:expr, $then:expr) $number:tt) => { $then };
+    (@rows $head:tt $number:tt from $first:tt; $($rows:tt)*) => {
+        $crate::rows!(@rows $head $first $($rows)*)
     };
-    (@rows $head:tt $numbers:tt let $name:ident = $value:expr; $($rows:tt)*) => {{
+    (@rows $head:tt $number:tt let $name:ident = $value:expr; $($rows:tt)*) => {{
         let $name = $value;
-        $crate::rows!(@rows $head $numbers $($rows)*)
+        $crate::rows!(@rows $head $number $($rows)*)
     }};
-    (@rows $head:tt [$number:literal $($numbers:literal)*] otherwise => $($row:tt)*) => {
+    (@rows $head:tt $number:tt otherwise => $($row:tt)*) => {
         $crate::rows!(@row $head $number $($row)*)
     };
-    (@rows $head:tt $numbers:tt in $call:expr;) => { $call };
-    (@rows $head:tt $numbers:tt $test:expr => in $call:expr; $($rows:tt)*) => {
-        if $test { $call } else { $crate::rows!(@rows $head $numbers $($rows)*) }
+    (@rows $head:tt $number:tt in $call:expr;) => { $call };
+    (@rows $head:tt $number:tt let $case:pat = $value:expr => $($rows:tt)*) => {
+        $crate::rows!(@if [let $case = $value] $head $number $($rows)*)
     };
-    (@rows $head:tt [$number:literal $($numbers:literal)*] $test:expr =>
-        $body:block $(-> $own:expr)?; $($rows:tt)*) => {
-        if $test {
+    (@rows $head:tt $number:tt $test:expr => $($rows:tt)*) => {
+        $crate::rows!(@if [$test] $head $number $($rows)*)
+    };
+    (@if [$($test:tt)+] $head:tt $number:tt in $call:expr; $($rows:tt)*) => {
+        if $($test)+ { $call } else { $crate::rows!(@rows $head $number $($rows)*) }
+    };
+    (@if [$($test:tt)+] $head:tt $number:tt $body:block $(-> $own:expr)?; $($rows:tt)*) => {
+        if $($test)+ {
             $crate::rows!(@row $head $number $body $(-> $own)?;)
         } else {
-            $crate::rows!(@rows $head [$($numbers)*] $($rows)*)
+            $crate::rows!(@after $number $head $($rows)*)
         }
     };
-    (@rows $head:tt [$number:literal $($numbers:literal)*] $test:expr =>
+    (@if [$($test:tt)+] $head:tt $number:tt
         $($word:ident $(.$of:ident)? $(::$item:ident)? ($($arg:expr),*)),+ $(-> $own:expr)?;
         $($rows:tt)*) => {
-        if $test {
+        if $($test)+ {
             $crate::rows!(@row $head $number
                 $($word $(.$of)? $(::$item)? ($($arg),*)),+ $(-> $own)?;)
         } else {
-            $crate::rows!(@rows $head [$($numbers)*] $($rows)*)
+            $crate::rows!(@after $number $head $($rows)*)
         }
     };
-    (@from 1 $($rest:tt)*) => { $crate::rows!(@on [1 2 3 4 5 6 7 8 9 10 11 12 13 14] $($rest)*) };
-    (@from 2 $($rest:tt)*) => { $crate::rows!(@on [2 3 4] $($rest)*) };
-    (@from 3 $($rest:tt)*) => { $crate::rows!(@on [3 4 5 6 7 8 9 10] $($rest)*) };
-    (@from 6 $($rest:tt)*) => { $crate::rows!(@on [6 7 8] $($rest)*) };
-    (@from 8 $($rest:tt)*) => { $crate::rows!(@on [8 9 10 11 12] $($rest)*) };
-    (@from 9 $($rest:tt)*) => { $crate::rows!(@on [9 10 11 12] $($rest)*) };
-    (@from 11 $($rest:tt)*) => { $crate::rows!(@on [11 12 13 14 15 16] $($rest)*) };
-    (@from 13 $($rest:tt)*) => { $crate::rows!(@on [13 14 15 16 17] $($rest)*) };
-    (@from 18 $($rest:tt)*) => { $crate::rows!(@on [18 19 20 21 22 23 24] $($rest)*) };
-    (@from 25 $($rest:tt)*) => { $crate::rows!(@on [25] $($rest)*) };
-    (@on $numbers:tt $head:tt $($rows:tt)*) => { $crate::rows!(@rows $head $numbers $($rows)*) };
+    (@after 1 $head:tt $($rows:tt)*) => { $crate::rows!(@rows $head 2 $($rows)*) };
+    (@after 2 $head:tt $($rows:tt)*) => { $crate::rows!(@rows $head 3 $($rows)*) };
+    (@after 3 $head:tt $($rows:tt)*) => { $crate::rows!(@rows $head 4 $($rows)*) };
+    (@after 4 $head:tt $($rows:tt)*) => { $crate::rows!(@rows $head 5 $($rows)*) };
+    (@after 5 $head:tt $($rows:tt)*) => { $crate::rows!(@rows $head 6 $($rows)*) };
+    (@after 6 $head:tt $($rows:tt)*) => { $crate::rows!(@rows $head 7 $($rows)*) };
+    (@after 7 $head:tt $($rows:tt)*) => { $crate::rows!(@rows $head 8 $($rows)*) };
+    (@after 8 $head:tt $($rows:tt)*) => { $crate::rows!(@rows $head 9 $($rows)*) };
+    (@after 9 $head:tt $($rows:tt)*) => { $crate::rows!(@rows $head 10 $($rows)*) };
+    (@after 10 $head:tt $($rows:tt)*) => { $crate::rows!(@rows $head 11 $($rows)*) };
+    (@after 11 $head:tt $($rows:tt)*) => { $crate::rows!(@rows $head 12 $($rows)*) };
+    (@after 12 $head:tt $($rows:tt)*) => { $crate::rows!(@rows $head 13 $($rows)*) };
+    (@after 13 $head:tt $($rows:tt)*) => { $crate::rows!(@rows $head 14 $($rows)*) };
+    (@after 14 $head:tt $($rows:tt)*) => { $crate::rows!(@rows $head 15 $($rows)*) };
+    (@after 15 $head:tt $($rows:tt)*) => { $crate::rows!(@rows $head 16 $($rows)*) };
+    (@after 16 $head:tt $($rows:tt)*) => { $crate::rows!(@rows $head 17 $($rows)*) };
+    (@after 17 $head:tt $($rows:tt)*) => { $crate::rows!(@rows $head 18 $($rows)*) };
+    (@after 18 $head:tt $($rows:tt)*) => { $crate::rows!(@rows $head 19 $($rows)*) };
+    (@after 19 $head:tt $($rows:tt)*) => { $crate::rows!(@rows $head 20 $($rows)*) };
+    (@after 20 $head:tt $($rows:tt)*) => { $crate::rows!(@rows $head 21 $($rows)*) };
+    (@after 21 $head:tt $($rows:tt)*) => { $crate::rows!(@rows $head 22 $($rows)*) };
+    (@after 22 $head:tt $($rows:tt)*) => { $crate::rows!(@rows $head 23 $($rows)*) };
+    (@after 23 $head:tt $($rows:tt)*) => { $crate::rows!(@rows $head 24 $($rows)*) };
+    (@after 24 $head:tt $($rows:tt)*) => { $crate::rows!(@rows $head 25 $($rows)*) };
     ($scene:ident, $table:expr; $($rows:tt)*) => { $crate::rows!($scene, $table, (); $($rows)*) };
     ($scene:ident, $table:expr, $then:expr; $($rows:tt)*) => {
-        $crate::rows!(@from 1 ($scene $table, $then) $($rows)*)
+        $crate::rows!(@rows ($scene $table, $then) 1 $($rows)*)
     };
 }
