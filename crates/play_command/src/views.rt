@@ -120,12 +120,8 @@ pub(crate) fn named<T: Copy>(items: &[(&str, T)], name: &str) -> Option<T>
 
 /// The views of a table by their names; the first is the usual one.
 macro_rules! by_name {
-    (
-        $first:literal $usual:expr, $is:literal;
-        $($name:literal $view:expr, $said:literal;)*
-        or $last:literal $other:expr, $told:literal
-    ) => {
-        &[($first, $usual), $(($name, $view),)* ($last, $other)]
+    ($($(or)? $name:literal $view:expr, $said:literal);*) => {
+        &[$(($name, $view)),*]
     };
 }
 
