@@ -1,7 +1,6 @@
 -- What the parser found for the arguments of a command: names, numbers and files; and what each
 -- command alone asks by that, or the first of its arguments' misuses.
-use Rattle.std.specs.Prelude.{◌&&◌, ◌==◌, ℕ, Bool, false, List, [], ◌∷◌, length, map, nat_le}
-use Rattle.std.specs.Prelude.{nat_lt}
+use Rattle.std.specs.Prelude.{◌&&◌, ◌==◌, ℕ, Bool, false, List, [], ◌∷◌, length, map, nat_le, nat_lt}
 use Rattle.std.specs.Prelude.{bytes_eq, codes, Option, None, Some, is_some, ok_or, unwrap_or}
 use Rattle.std.specs.Prelude.{Result, Ok, if◌then◌else◌, ◌||◌, true, is_none, not, Err}
 use Rattle.std.specs.Borrow.{Bor}
@@ -40,12 +39,6 @@ is_given id rows = is_some (first_of id rows)
 -- whether an option without a value was given: what was found for it, or that it wasn't
 abbrev pub is_set : List ℕ → List Row → Bool
 is_set id rows = option_map_or (bytes_eq (codes "true")) (first_of id rows) false
-
--- what a text says, or the usual value if there is no text
-abbrev pub said_or : {T : Type 0} → (List ℕ → Result T Misuse) → T → Option (List ℕ)
-    → Result T Misuse
-said_or read usual None = Ok usual
-said_or read usual (Some text) = read text
 
 -- what follows from a value, unless there is a misuse
 infixl 10 ◌>>=◌
@@ -91,7 +84,7 @@ number_said option text = do
 -- the number that was found for an option, or the usual one
 unfoldable pub number_of : NumberOption → ℕ → List Row → Result ℕ Misuse
 number_of option usual rows =
-    said_or (number_said option) usual (first_of (number_row option).0 rows)
+    option_map_or (number_said option) (first_of (number_row option).0 rows) (Ok usual)
 
 -- ---- the files that a run reads, and the one that it writes
 
@@ -154,8 +147,8 @@ edit_view_of ReportView.Table = EditView.Table
 -- the view that was found, or the usual one; the parser should have refused the name of none
 abbrev pub view_of : {V : Type 0} → List (List ℕ × V) → V → List Row → Result V Misuse
 view_of views usual rows =
-    said_or (λ name. ok_or (named views name) Misuse.Incomplete) usual
-    (first_of (codes "print") rows)
+    option_map_or (λ name. ok_or (named views name) Misuse.Incomplete)
+    (first_of (codes "print") rows) (Ok usual)
 
 -- what is doubtful, or never shown, is to be judged or left out
 abbrev pub judges_left : List Row → Bool

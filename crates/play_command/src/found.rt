@@ -11,6 +11,7 @@ use crate::fault::Misuse;
 use crate::line::{Input, NamedFile};
 use base_lines::bytes::{number_of, split_digits};
 use base_lines::limits::{MAX_EVERY, MAX_SEED, is_long_number};
+use base_lines::numbers::LAST_PLACE;
 use clap::ArgMatches;
 use std::alloc::{AllocError, Global};
 
@@ -46,9 +47,6 @@ pub(crate) fn is_set(found: &ArgMatches<'_>, id: &str) -> bool
     value_in(found, id) == Some("true")
 }
 
-/// The greatest number of a place, which is also the most ways from one.
-const MAX_PLACE: u32 = 300;
-
 /// An option whose value is a number.
 #[derive(Clone, Copy, Debug, PartialEq, Eq)]
 pub enum NumberOption {
@@ -59,15 +57,16 @@ pub enum NumberOption {
 }
 
 impl NumberOption {
-    /// Its name, and the least and the most that the number may be.
+    /// Its name, and the least and the most that the number may be. No place is more ways from
+    /// another than there are places.
     pub(crate) fn row(self) -> (&'static str, u32, u32)
         ensures { (result.0.now, result.1, result.2) ≡ number_row self }
     {
         match self {
             NumberOption::Seed => ("seed", 0, MAX_SEED),
             NumberOption::Every => ("every", 1, MAX_EVERY),
-            NumberOption::From => ("from", 1, MAX_PLACE),
-            NumberOption::Within => ("within", 0, MAX_PLACE),
+            NumberOption::From => ("from", 1, u32::from(LAST_PLACE)),
+            NumberOption::Within => ("within", 0, u32::from(LAST_PLACE)),
         }
     }
 }
