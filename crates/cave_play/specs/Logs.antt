@@ -5,9 +5,8 @@ use Rattle.std.specs.Prelude.{Err, map}
 use Rattle.cave_play.specs.declared.logs.LogsFault.{LogsFault}
 use Rattle.cave_play.specs.declared.fault.PlayFault.{PlayFault}
 use Rattle.cave_play.specs.declared.output.Reported.{Reported}
-use Rattle.cave_play.specs.Stages.{log_fault, large_seed, IsFoundAt, Leaves, Stage}
+use Rattle.cave_play.specs.Stages.{log_fault, large_seed, IsFoundAt, IsFoundIn, Leaves, Stage}
 use Rattle.cave_play.specs.Stages.{first_decided, judging_stage, cave_stages, log_stage}
-use Rattle.cave_play.specs.Stages as stage
 use Rattle.std.specs.Str.Lines.{lines}
 use Rattle.cave_data.specs.CaveView.{CaveView}
 use Rattle.cave_data.specs.Reads.{Reads}
@@ -62,7 +61,7 @@ IsFoundFrom place (log ∷ logs) found =
 abbrev pub JudgesLogs : {X : Type 0} → List Stage → List (List ℕ) → (X → Type 0)
     → Result X LogsFault → Type 0
 JudgesLogs first logs P (Ok made) = (first_decided first ≡ None) × AreValidLogs logs × P made
-JudgesLogs first logs P (Err found) = ((found.log ≡ None) × stage.IsFoundIn first found.fault)
+JudgesLogs first logs P (Err found) = ((found.log ≡ None) × IsFoundIn first found.fault)
     ⊎ ((first_decided first ≡ None) × IsFoundFrom 0 logs found)
 
 -- what was made is right with what is found with it

@@ -1,8 +1,9 @@
 -- What runs make, and what a run writes about a cave, a play in it, edits of a log, or two logs.
 use Rattle.std.specs.Prelude.{◌≡◌, ℕ, List, ◌++◌, codes, ◌⊎◌, Bool, true, ◌∷◌, Option, Result, Ok}
 use Rattle.std.specs.Prelude.{Err, None, Some, [], length, MatchResult, false, option_map}
-use Rattle.std.specs.Prelude.{if◌then◌else◌, nat_lt}
+use Rattle.std.specs.Prelude.{if◌then◌else◌}
 use Rattle.std.specs.Fmt.{decimal}
+use Rattle.std.specs.Option.{option_map_or}
 use Rattle.std.specs.Str.Lines.{lines}
 use Rattle.cave_data.specs.CaveView.{CaveView}
 use Rattle.cave_data.specs.Reads.{Reads}
@@ -34,14 +35,13 @@ use Rattle.check_doubts.specs.declared.flaw.Doubt.{Doubt}
 use Rattle.check_doubts.specs.declared.listing.DoubtFiles.{DoubtFiles}
 use Rattle.cave_play.specs.Sources.{InputTexts, Held, Leads}
 use Rattle.cave_play.specs.Stages.{IsFoundIn, Judges, Leaves, doubts_stages}
-use Rattle.cave_play.specs.Stages.{size_fault, judging_stage, Stage, edit_stages}
+use Rattle.cave_play.specs.Stages.{size_fault, if_large, judging_stage, Stage, edit_stages}
 use Rattle.cave_play.specs.Stages.{log_stage, reading_stage, log_fault}
 use Rattle.play_command.specs.Asked.{edit_view_of}
 use Rattle.play_edits.specs.Views.{IsEndedEdit, refusals_by, seed_by}
 use Rattle.play_edits.specs.declared.items.EditRun.{EditRun}
 use Rattle.play_edits.specs.declared.items.MadeEdit.{MadeEdit}
 use Rattle.std.specs.Global.{Vec}
-use Rattle.base_lines.specs.Limits.{MAX_INPUT_BYTES}
 use Rattle.replay_difference.specs.ScriptTo.{IsScriptTo}
 use Rattle.replay_difference.specs.declared.script.ScriptForm.{ScriptForm}
 
@@ -108,12 +108,8 @@ AreLeftIn files database bindings known left = (cave : CaveView) × Reads databa
     × AreLeft files known (doubts cave database bindings) left
 
 -- the doubts were listed, and the fault of a strict run ends it
-abbrev pub by_doubt : Option PlayFault → Result (Unit {0}) PlayFault
-by_doubt None = Ok tt
-by_doubt (Some found) = Err found
-
 abbrev pub by_doubts : Bool → Result (Vec Doubt) PlayFault → Result (Unit {0}) PlayFault
-by_doubts strict (Ok left) = by_doubt (first_doubt strict left.items)
+by_doubts strict (Ok left) = option_map_or Err (first_doubt strict left.items) (Ok tt)
 by_doubts strict (Err found) = Err found
 
 -- what the run leaves: the list, also if it then fails with a doubt
@@ -188,8 +184,7 @@ IsDifferenceOf form old new script =
 
 -- the size of the script is judged last, since a run has to be able to read it
 abbrev pub script_size_stage : List ℕ → Stage
-script_size_stage script = judging_stage
-    (if nat_lt MAX_INPUT_BYTES (length script) then Some PlayFault.LargeScript else None)
+script_size_stage script = judging_stage (if_large PlayFault.LargeScript (length script))
 
 -- one of two logs is refused
 abbrev pub AreRefused : {A : Type 0} → InputTexts → Result A PlayFault → Type 0

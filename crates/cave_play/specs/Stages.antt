@@ -52,9 +52,12 @@ too_large Input.NewLog = PlayFault.NewLog LogFault.TooLarge
 too_large Input.Script = PlayFault.Script ScriptFault.TooLarge
 too_large Input.Known = PlayFault.LargeKnown
 
+-- the fault of so many bytes, if an input may not have them
+abbrev pub if_large : PlayFault → ℕ → Option PlayFault
+if_large found bytes = if nat_lt MAX_INPUT_BYTES bytes then Some found else None
+
 abbrev pub input_size_fault : Input → List ℕ → Option PlayFault
-input_size_fault from bytes = if nat_lt MAX_INPUT_BYTES (length bytes) then Some (too_large from)
-    else None
+input_size_fault from bytes = if_large (too_large from) (length bytes)
 
 -- the fault of a run whose cave is refused: what is wrong, with what is known beyond that
 abbrev pub cave_refusal : List ℕ → List ℕ → CaveError → PlayFault
@@ -97,12 +100,9 @@ script_fault guarded bytes = option_or (input_size_fault Input.Script bytes)
 
 -- the fault of an output of this many bytes: a log and a script may have as many as an input
 abbrev pub size_fault : EditView → ℕ → Option PlayFault
-size_fault EditView.Log bytes =
-    if nat_lt MAX_INPUT_BYTES bytes then Some PlayFault.LargeLog else None
-size_fault EditView.Undo bytes =
-    if nat_lt MAX_INPUT_BYTES bytes then Some PlayFault.LargeScript else None
-size_fault EditView.Guarded bytes =
-    if nat_lt MAX_INPUT_BYTES bytes then Some PlayFault.LargeScript else None
+size_fault EditView.Log bytes = if_large PlayFault.LargeLog bytes
+size_fault EditView.Undo bytes = if_large PlayFault.LargeScript bytes
+size_fault EditView.Guarded bytes = if_large PlayFault.LargeScript bytes
 size_fault _ bytes = None
 
 abbrev pub bytes_to_read : EditView → Bool → List Applied → Game → EndsOfLog → ℕ

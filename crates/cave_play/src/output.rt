@@ -44,12 +44,7 @@ pub fn write_report<A: Drop, F: From<PlayFault>, W: Write>(
     ensures { Writes (F.from_gives PlayFault.Write) made (W.contents output.old)
         (W.contents output.new) result }
 {
-    let Reported { text, found } = match made {
-        Ok(made) => made,
-        Err(fault) => return Err(fault),
-    };
-    match write_output(output, &text) {
-        Ok(()) => Ok(found),
-        Err(fault) => Err(F::from(fault)),
-    }
+    let Reported { text, found } = made?;
+    write_output(output, &text)?;
+    Ok(found)
 }

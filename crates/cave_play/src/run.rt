@@ -210,8 +210,7 @@ pub fn run_check<C: Read, B: Read, L: Read, S: Read, W: Write>(
         (IsChecked view texts.database texts.bindings)
         (W.contents output.old) (W.contents output.new) result }
 {
-    let mut readers = OneLog::of(inputs);
-    let made = make_check(alloc, &mut readers, view);
+    let made = make_check(alloc, &mut OneLog::of(inputs), view);
     write_report(made, output)
 }
 
@@ -230,8 +229,7 @@ pub fn run_doubts<C: Read, B: Read, L: Read, S: Read, W: Write>(
         × RunsDoubts strict files.now texts (W.contents output.old) (W.contents output.new)
         result }
 {
-    let mut readers = OneLog::of(inputs);
-    let made = make_doubts(alloc, &mut readers, files);
+    let made = make_doubts(alloc, &mut OneLog::of(inputs), files);
     let left = write_report(made, output)?;
     match first_doubt(strict, &left) {
         Some(fault) => Err(fault),
@@ -253,8 +251,7 @@ pub fn run_play<C: Read, B: Read, L: Read, S: Read, W: Write>(
         (IsPlayed texts.database texts.bindings texts.log seed view)
         (W.contents output.old) (W.contents output.new) result }
 {
-    let mut readers = OneLog::of(inputs);
-    let made = make_play(alloc, &mut readers, seed, view);
+    let made = make_play(alloc, &mut OneLog::of(inputs), seed, view);
     write_report(made, output)
 }
 
@@ -274,7 +271,6 @@ pub fn run_edit<C: Read, B: Read, L: Read, S: Read, W: Write>(
         (IsEditRun texts.database texts.bindings texts.log texts.script editing report)
         (W.contents output.old) (W.contents output.new) result }
 {
-    let mut readers = OneLog::of(inputs);
-    let made = make_edit(alloc, &mut readers, editing, report);
+    let made = make_edit(alloc, &mut OneLog::of(inputs), editing, report);
     write_report(made, output)
 }

@@ -1,9 +1,9 @@
 //! Runs over two logs: the edits that make one of the other, and what they lead to.
 
-ghost use Rattle.std.specs.Prelude.{◌≡◌, ℕ, List, [], ◌∷◌, Some};
+ghost use Rattle.std.specs.Prelude.{◌≡◌, ℕ, List, [], ◌∷◌};
 ghost use Rattle.std.specs.Str.Lines.{lines};
 ghost use Rattle.replay_edits.specs.Edit.{log_of};
-ghost use Rattle.cave_play.specs.Sources.{AreTextsOf, InputTexts, Says, IsReading, AreHeld};
+ghost use Rattle.cave_play.specs.Sources.{AreTextsOf, InputTexts, Says, AreHeld};
 ghost use Rattle.cave_play.specs.Sources.{next_log, Leads};
 ghost use Rattle.cave_play.specs.Stages.{Judges, judging_stage, lines_fault};
 ghost use Rattle.cave_play.specs.Output.{IsCompared, JudgesEditTo, JudgesScript, ReadsWith};
@@ -11,7 +11,7 @@ ghost use Rattle.cave_play.specs.Output.{RunsEditTo, RunsScript, new_log_fault, 
 ghost use Rattle.cave_play.specs.Output.{with_compared};
 
 use crate::fault::PlayFault;
-use crate::inputs::{Inputs, OneLog, Sources, too_large};
+use crate::inputs::{Inputs, OneLog, Sources, read};
 use crate::output::{Reported, write_report};
 use crate::run::make_edit;
 use base_lines::limits::{USUAL_EVERY, is_large_input};
@@ -22,7 +22,6 @@ use replay_difference::script::{ScriptForm, push_difference};
 use replay_edits::LineText;
 use std::alloc::Global;
 use std::io::{Read, Write};
-use std::mem;
 
 /// A log, and the script of the edits that make another one of it.
 #[derive(Drop)]
@@ -99,20 +98,9 @@ pub fn make_script<I: Sources>(
 #[derive(Drop)]
 struct WithCompared<'a, I> {
     inputs: &'a mut I,
-    compared: &'a mut Compared,
+    compared: &'a Compared,
     /// Whether the log was asked for.
     is_read: bool,
-}
-
-/// Gives a text that was read before.
-fn give(alloc: Global, input: Input, text: &mut Vec<u8>) -> Result<Vec<u8>, PlayFault>
-    ensures { IsReading (Some text.old.items) input result }
-{
-    let text = mem::replace(text, Vec::new(alloc));
-    if is_large_input(text.len()) {
-        return Err(too_large(input));
-    }
-    Ok(text)
 }
 
 impl<I: Sources> Sources for WithCompared<'_, I> {
@@ -126,9 +114,9 @@ impl<I: Sources> Sources for WithCompared<'_, I> {
             Input::Log if self.is_read => Ok(Vec::new(alloc)),
             Input::Log => {
                 self.is_read = true;
-                give(alloc, input, &mut self.compared.log)
+                read(alloc, input, &mut self.compared.log.as_slice())
             }
-            Input::Script => give(alloc, input, &mut self.compared.script),
+            Input::Script => read(alloc, input, &mut self.compared.script.as_slice()),
             _ => self.inputs.read(alloc, input),
         }
     }
@@ -150,10 +138,10 @@ pub fn make_edit_to<I: Sources>(
         guarded: editing.guarded,
         grouped: false,
     };
-    let mut compared = compare(alloc, inputs, form)?;
+    let compared = compare(alloc, inputs, form)?;
     let mut inputs = WithCompared {
         inputs,
-        compared: &mut compared,
+        compared: &compared,
         is_read: false,
     };
     make_edit(alloc, &mut inputs, editing, report)
@@ -171,8 +159,7 @@ pub fn run_script<C: Read, B: Read, L: Read, S: Read, W: Write>(
         × AreTextsOf C.remaining B.remaining L.remaining S.remaining inputs.old texts
         × RunsScript form texts (W.contents output.old) (W.contents output.new) result }
 {
-    let mut readers = OneLog::of(inputs);
-    let made = make_script(alloc, &mut readers, form);
+    let made = make_script(alloc, &mut OneLog::of(inputs), form);
     write_report(made, output)
 }
 
@@ -189,7 +176,6 @@ pub fn run_edit_to<C: Read, B: Read, L: Read, S: Read, W: Write>(
         × AreTextsOf C.remaining B.remaining L.remaining S.remaining inputs.old texts
         × RunsEditTo texts editing report (W.contents output.old) (W.contents output.new) result }
 {
-    let mut readers = OneLog::of(inputs);
-    let made = make_edit_to(alloc, &mut readers, editing, report);
+    let made = make_edit_to(alloc, &mut OneLog::of(inputs), editing, report);
     write_report(made, output)
 }

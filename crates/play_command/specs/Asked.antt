@@ -1,10 +1,10 @@
 -- What the parser found for the arguments of a command: names, numbers and files; and what each
 -- command alone asks by that, or the first of its arguments' misuses.
-use Rattle.std.specs.Prelude.{◌&&◌, ℕ, Bool, false, List, [], ◌∷◌, length, map, nat_le, nat_lt}
+use Rattle.std.specs.Prelude.{◌&&◌, ◌==◌, ℕ, Bool, false, List, [], ◌∷◌, length, map, nat_le, nat_lt}
 use Rattle.std.specs.Prelude.{bytes_eq, codes, Option, None, Some, is_some, ok_or, unwrap_or}
 use Rattle.std.specs.Prelude.{Result, Ok, if◌then◌else◌, ◌||◌, true, is_none, not, Err}
 use Rattle.std.specs.Borrow.{Bor}
-use Rattle.std.specs.List.{flat_map, list_all}
+use Rattle.std.specs.List.{flat_map}
 use Rattle.std.specs.Option.{option_map_or}
 use Rattle.base_lines.specs.Bytes as bytes
 use Rattle.base_lines.specs.Limits.{MAX_DIGITS, MAX_EVERY, MAX_SEED}
@@ -40,11 +40,11 @@ is_given id rows = is_some (first_of id rows)
 abbrev pub is_set : List ℕ → List Row → Bool
 is_set id rows = option_map_or (bytes_eq (codes "true")) (first_of id rows) false
 
--- what a text says, or the usual value if there is no text
-abbrev pub said_or : {T : Type 0} → (List ℕ → Result T Misuse) → T → Option (List ℕ)
-    → Result T Misuse
-said_or read usual None = Ok usual
-said_or read usual (Some text) = read text
+-- what follows from a value, unless there is a misuse
+infixl 10 ◌>>=◌
+abbrev pub ◌>>=◌ : {A B : Type 0} → Result A Misuse → (A → Result B Misuse) → Result B Misuse
+Ok value >>= next = next value
+Err found >>= next = Err found
 
 -- ---- names
 
@@ -66,23 +66,25 @@ number_row NumberOption.Every = (codes "every", 1, MAX_EVERY)
 number_row NumberOption.From = (codes "from", 1, 300)
 number_row NumberOption.Within = (codes "within", 0, 300)
 
--- the number that the text writes in 1 to 10 digits and nothing else, if it is from `least` to `most`
-unfoldable pub number_in_range : ℕ → ℕ → List ℕ → Option ℕ
-number_in_range least most text =
-    if nat_lt 0 (length text) && nat_le (length text) MAX_DIGITS && list_all bytes.is_digit text
-    && nat_le least (bytes.number_of text) && nat_le (bytes.number_of text) most
-    then Some (bytes.number_of text) else None
+-- the number that the text writes in 1 to 10 digits and nothing else
+unfoldable pub number_written : List ℕ → Option ℕ
+number_written text =
+    let digits = bytes.prefix_while bytes.is_digit text in
+    if length (bytes.after_prefix bytes.is_digit text) == 0 && nat_lt 0 (length digits)
+    && nat_le (length digits) MAX_DIGITS
+    then Some (bytes.number_of digits) else None
 
 -- the number that the text writes, if the option may have it
 abbrev pub number_said : NumberOption → List ℕ → Result ℕ Misuse
-number_said option text =
-    let row = number_row option in
-    ok_or (number_in_range row.1 row.2 text) (Misuse.BadNumber option)
+number_said option text = do
+  number ← ok_or (number_written text) (Misuse.BadNumber option)
+  if nat_le (number_row option).1 number && nat_le number (number_row option).2 then Ok number
+      else Err (Misuse.BadNumber option)
 
 -- the number that was found for an option, or the usual one
 unfoldable pub number_of : NumberOption → ℕ → List Row → Result ℕ Misuse
 number_of option usual rows =
-    said_or (number_said option) usual (first_of (number_row option).0 rows)
+    option_map_or (number_said option) (first_of (number_row option).0 rows) (Ok usual)
 
 -- ---- the files that a run reads, and the one that it writes
 
@@ -142,17 +144,11 @@ edit_view_of ReportView.Table = EditView.Table
 
 -- ---- what several commands ask
 
--- what follows from a value, unless there is a misuse
-infixl 10 ◌>>=◌
-abbrev pub ◌>>=◌ : {A B : Type 0} → Result A Misuse → (A → Result B Misuse) → Result B Misuse
-Ok value >>= next = next value
-Err found >>= next = Err found
-
 -- the view that was found, or the usual one; the parser should have refused the name of none
 abbrev pub view_of : {V : Type 0} → List (List ℕ × V) → V → List Row → Result V Misuse
 view_of views usual rows =
-    said_or (λ name. ok_or (named views name) Misuse.Incomplete) usual
-    (first_of (codes "print") rows)
+    option_map_or (λ name. ok_or (named views name) Misuse.Incomplete)
+    (first_of (codes "print") rows) (Ok usual)
 
 -- what is doubtful, or never shown, is to be judged or left out
 abbrev pub judges_left : List Row → Bool

@@ -3,7 +3,7 @@ use Prim.Native.String.{String}
 use Rattle.std.specs.Prelude.{◌≡◌, ℕ, Bool, true, false, List, [], ◌∷◌, Option, None, Some, codes}
 use Rattle.std.specs.Prelude.{fold, if◌then◌else◌, map}
 use Rattle.std.specs.Borrow.{Bor}
-use Rattle.std.specs.List.{list_all, list_any, slice_get}
+use Rattle.std.specs.List.{filter, list_all, list_any, slice_get}
 use Rattle.base_lines.specs.Nearest.{is_near_name}
 use Rattle.clap.specs.Words.{App, Row, Rule, app_of, new_app, new_rule, with_rule, with_subcommand}
 use Rattle.clap.specs.declared.builder.action.ArgAction.TheVariants.{Append, SetTrue}
@@ -49,18 +49,15 @@ is_needed _ = false
 
 -- the arguments of which that is so
 abbrev pub needed_in : List Argument → List (List ℕ)
-needed_in [] = []
-needed_in (argument ∷ arguments) =
-    if is_needed argument.form then argument.id.now ∷ needed_in arguments
-    else needed_in arguments
+needed_in arguments =
+    map (λ argument. argument.id.now) (filter (λ argument. is_needed argument.form) arguments)
 
 -- a row of the code's table
-abbrev pub needs_of : CommandRow → Needs
-needs_of row =
-    (row.command, needed_in row.arguments.now, map (λ name. name.now) row.others.now)
-
 abbrev pub with_needs : Bor (List ℕ) × CommandRow → List ℕ × Needs
-with_needs row = (row.0.now, needs_of row.1)
+with_needs row = (
+  row.0.now,
+  (row.1.command, needed_in row.1.arguments.now, map (λ name. name.now) row.1.others.now),
+)
 
 -- the first of some commands for which people type this word, or one that it is near to
 abbrev pub meant_in : List (List ℕ × Needs) → List ℕ → Option (List ℕ)

@@ -1,16 +1,17 @@
 //! What the parser found for the arguments of a command: texts, numbers and files.
 
 ghost use Rattle.std.specs.Prelude.{◌≡◌, ◌≤◌, IfOk, MatchOption, None, Some, map, option_map};
-ghost use Rattle.std.specs.List.{flat_map, list_all};
-ghost use Rattle.base_lines.specs.Bytes.{is_digit};
+ghost use Rattle.std.specs.List.{flat_map};
 ghost use Rattle.clap.specs.Words.{all_of, first_of};
 ghost use Rattle.play_command.specs.Asked.{files_at, is_given, is_set, named_file, number_of};
-ghost use Rattle.play_command.specs.Asked.{number_row, number_said, output_of, rows_in, with_text};
+ghost use Rattle.play_command.specs.Asked.{number_row, number_said, number_written, output_of};
+ghost use Rattle.play_command.specs.Asked.{rows_in, with_text};
 
 use crate::fault::Misuse;
 use crate::line::{Input, NamedFile};
-use base_lines::bytes::number_of;
+use base_lines::bytes::{number_of, split_digits};
 use base_lines::limits::{MAX_EVERY, MAX_SEED, is_long_number};
+use base_lines::numbers::LAST_PLACE;
 use clap::ArgMatches;
 use std::alloc::{AllocError, Global};
 
@@ -46,9 +47,6 @@ pub(crate) fn is_set(found: &ArgMatches<'_>, id: &str) -> bool
     value_in(found, id) == Some("true")
 }
 
-/// The greatest number of a place, which is also the most ways from one.
-const MAX_PLACE: u32 = 300;
-
 /// An option whose value is a number.
 #[derive(Clone, Copy, Debug, PartialEq, Eq)]
 pub enum NumberOption {
@@ -59,41 +57,44 @@ pub enum NumberOption {
 }
 
 impl NumberOption {
-    /// Its name, and the least and the most that the number may be.
+    /// Its name, and the least and the most that the number may be. No place is more ways from
+    /// another than there are places.
     pub(crate) fn row(self) -> (&'static str, u32, u32)
         ensures { (result.0.now, result.1, result.2) ≡ number_row self }
     {
         match self {
             NumberOption::Seed => ("seed", 0, MAX_SEED),
             NumberOption::Every => ("every", 1, MAX_EVERY),
-            NumberOption::From => ("from", 1, MAX_PLACE),
-            NumberOption::Within => ("within", 0, MAX_PLACE),
+            NumberOption::From => ("from", 1, u32::from(LAST_PLACE)),
+            NumberOption::Within => ("within", 0, u32::from(LAST_PLACE)),
         }
     }
 }
 
-fn is_all_digits(text: &[u8]) -> bool
-    ensures { result ≡ list_all is_digit text.now }
+/// The number that a text writes in 1 to 10 digits and nothing else.
+#[tactic(auto, unfolding(crate::specs::Asked::number_written))]
+pub fn number_written(text: &[u8]) -> Option<u64>
+    ensures { result ≡ number_written text.now }
 {
-    text.iter().all(|byte| byte.is_ascii_digit())
+    let (digits, rest) = split_digits(text);
+    if !rest.is_empty() || digits.is_empty() || is_long_number(digits.len()) {
+        return None;
+    }
+    Some(number_of(digits))
 }
 
-/// The number that a text writes in 1 to 10 digits and nothing else, if an option may have it.
-#[tactic(auto, unfolding(crate::specs::Asked::number_in_range))]
+/// The number that a text writes, if an option may have it.
 pub(crate) fn number_said(option: NumberOption, text: &str) -> Result<u32, Misuse>
     ensures number { result ≡ number_said option text.now }
     ensures most { IfOk result (λ number. number ≤ (number_row option).2) }
 {
     let (_, least, most) = option.row();
-    let digits = text.as_bytes();
-    if digits.is_empty() || is_long_number(digits.len()) || !is_all_digits(digits) {
-        return Err(Misuse::BadNumber(option));
+    match number_written(text.as_bytes()) {
+        Some(number) if u64::from(least) <= number && number <= u64::from(most) => {
+            Ok(number as u32)
+        }
+        _ => Err(Misuse::BadNumber(option)),
     }
-    let number = number_of(digits);
-    if number < u64::from(least) || number > u64::from(most) {
-        return Err(Misuse::BadNumber(option));
-    }
-    Ok(number as u32)
 }
 
 /// The number that was found for an option, or the usual one.

@@ -11,6 +11,7 @@ mod read;
 pub mod views;
 
 pub use fault::CommandFault;
+pub use found::number_written;
 pub use line::{
     EditAsked, Editing, EditsFrom, Input, Line, MapPart, NamedFile, Request, Surroundings, What,
 };

@@ -120,12 +120,8 @@ pub(crate) fn named<T: Copy>(items: &[(&str, T)], name: &str) -> Option<T>
 
 /// The views of a table by their names; the first is the usual one.
 macro_rules! by_name {
-    (
-        $first:literal $usual:expr, $is:literal;
-        $($name:literal $view:expr, $said:literal;)*
-        or $last:literal $other:expr, $told:literal
-    ) => {
-        &[($first, $usual), $(($name, $view),)* ($last, $other)]
+    ($($(or)? $name:literal $view:expr, $said:literal);*) => {
+        &[$(($name, $view)),*]
     };
 }
 
@@ -202,11 +198,8 @@ macro_rules! views {
 }
 
 pub(crate) const CHECK_PRINT: Argument = views!(check print_option);
-
 pub(crate) const PLAY_PRINT: Argument = views!(play print_option);
-
 pub(crate) const EDIT_PRINT: Argument = views!(edit print_option);
-
 pub(crate) const COVER_PRINT: Argument = views!(cover print_option);
 
 /// What each command prints, by the names of its views, of which the first is the usual one.

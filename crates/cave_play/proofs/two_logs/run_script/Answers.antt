@@ -8,7 +8,7 @@ returns g c =
       runs = (
         texts,
         AreTextsOf-held g.C.Read.remaining g.B.Read.remaining g.L.Read.remaining
-            g.S.Read.remaining c.args.inputs.now c.of-readers.result c.of-readers.ensures texts
+            g.S.Read.remaining c.args.inputs.now c.of.result c.of.ensures texts
             are,
         (c.make_script-made.result, judged, c.write_report.ensures),
       );

@@ -6,5 +6,5 @@ pub returns-in_default : goal.returns-in_default
 returns-in_default g c = record {
   read = search rules;
   taken = search rules;
-  reads = (refl, once g.I.Sources.Reads _ _ _ c.read.ensures.reads);
+  reads = (refl, once g.I.Sources.Reads _ _ _ c.read-in_default.ensures.reads);
 }
