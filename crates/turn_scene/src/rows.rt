@@ -56,21 +56,15 @@ macro_rules! rows {
         if $($test)+ { $call } else { $crate::rows!(@rows $head $number $($rows)*) }
     };
     (@if [$($test:tt)+] $head:tt $number:tt $body:block $(-> $own:expr)?; $($rows:tt)*) => {
-        if $($test)+ {
-            $crate::rows!(@row $head $number $body $(-> $own)?;)
-        } else {
-            $crate::rows!(@after $number $head $($rows)*)
-        }
+        if $($test)+ { $crate::rows!(@row $head $number $body $(-> $own)?;) }
+        else { $crate::rows!(@after $number $head $($rows)*) }
     };
     (@if [$($test:tt)+] $head:tt $number:tt
         $($word:ident $(.$of:ident)? $(::$item:ident)? ($($arg:expr),*)),+ $(-> $own:expr)?;
         $($rows:tt)*) => {
-        if $($test)+ {
-            $crate::rows!(@row $head $number
-                $($word $(.$of)? $(::$item)? ($($arg),*)),+ $(-> $own)?;)
-        } else {
-            $crate::rows!(@after $number $head $($rows)*)
-        }
+        if $($test)+ { $crate::rows!(@row $head $number
+            $($word $(.$of)? $(::$item)? ($($arg),*)),+ $(-> $own)?;) }
+        else { $crate::rows!(@after $number $head $($rows)*) }
     };
     (@after 1 $head:tt $($rows:tt)*) => { $crate::rows!(@rows $head 2 $($rows)*) };
     (@after 2 $head:tt $($rows:tt)*) => { $crate::rows!(@rows $head 3 $($rows)*) };
