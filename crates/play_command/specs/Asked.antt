@@ -1,8 +1,8 @@
 -- What the parser found for the arguments of a command: names, numbers and files; and what each
 -- command alone asks by that, or the first of its arguments' misuses.
-use Rattle.std.specs.Prelude.{◌&&◌, ◌==◌, ℕ, Bool, false, List, [], ◌∷◌, length, map, nat_le, nat_lt}
+use Rattle.std.specs.Prelude.{◌&&◌, ◌==◌, ℕ, Bool, false, List, [], ◌∷◌, length, map, nat_le}
 use Rattle.std.specs.Prelude.{bytes_eq, codes, Option, None, Some, is_some, ok_or, unwrap_or}
-use Rattle.std.specs.Prelude.{Result, Ok, if◌then◌else◌, ◌||◌, true, is_none, not, Err}
+use Rattle.std.specs.Prelude.{Result, Ok, if◌then◌else◌, ◌||◌, true, is_none, not, nat_lt, Err}
 use Rattle.std.specs.Borrow.{Bor}
 use Rattle.std.specs.List.{flat_map}
 use Rattle.std.specs.Option.{option_map_or}
