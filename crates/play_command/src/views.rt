@@ -198,8 +198,11 @@ macro_rules! views {
 }
 
 pub(crate) const CHECK_PRINT: Argument = views!(check print_option);
+
 pub(crate) const PLAY_PRINT: Argument = views!(play print_option);
+
 pub(crate) const EDIT_PRINT: Argument = views!(edit print_option);
+
 pub(crate) const COVER_PRINT: Argument = views!(cover print_option);
 
 /// What each command prints, by the names of its views, of which the first is the usual one.

@@ -13,10 +13,9 @@ use Rattle.play_command.specs.declared.line.What.{What}
 use Rattle.play_command.specs.declared.line.What.TheVariants.{Check, Cover, Doubts, Edit, Map, Play}
 use Rattle.play_command.specs.declared.line.What.TheVariants.{Script}
 use Rattle.play_program.specs.Calls.{Call, and_then, Told}
-use Rattle.play_program.specs.Ends.{MakesOpened, held_by, why_unmade}
+use Rattle.play_program.specs.Ends.{HasReadAll, IsMadeBy, MakesOpened, held_by, why_unmade}
 use Rattle.std.specs.Result.{result_map_both}
 use Rattle.play_program.specs.Files.{FileName, files_in, is_same_input, log_count}
-use Rattle.play_program.specs.Making.{HasReadAll, IsMadeBy}
 use Rattle.play_program.specs.Sources.{entry_of, held_in, held_of, typed_text, Entry, ReadFile}
 use Rattle.play_program.specs.Sources.{ReadsOne, calls_for, entries_by, entries_in, of_input}
 use Rattle.play_program.specs.declared.make.Made.{Made}

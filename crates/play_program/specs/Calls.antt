@@ -79,12 +79,23 @@ pub data Call : Type 0 where
   Puts : List ℕ → List ℕ → Option Error → Call
   Tells : Told → Call
 
+-- what is known of a system: the calls that it got, the bytes of the file of a name, and whether
+-- two names are of one file
+abbrev pub Calls : Type 0
+Calls = Option (List Call)
+
+abbrev pub BytesOf : Type 0
+BytesOf = List ℕ → Option (List ℕ)
+
+abbrev pub OneFile : Type 0
+OneFile = List ℕ → List ℕ → Option Bool
+
 -- the known calls, followed by these
-abbrev pub and_then : Option (List Call) → List Call → Option (List Call)
+abbrev pub and_then : Calls → List Call → Calls
 and_then known more = option_map (λ calls. calls ++ more) known
 
 -- so the program ends: this is said, unless nothing is to be said about it, and nothing else is asked
-abbrev pub EndsTold : Told → Option (List Call) → Option (List Call) → ℕ → Type 0
+abbrev pub EndsTold : Told → Calls → Calls → ℕ → Type 0
 EndsTold said calls called status = (status ≡ status_told said)
     × (called ≡ (if is_silent said then calls else and_then calls (Tells said ∷ [])))
 

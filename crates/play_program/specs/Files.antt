@@ -12,7 +12,7 @@ use Rattle.play_command.specs.declared.line.What.{What}
 use Rattle.cave_play.specs.declared.fault.PlayFault.{PlayFault}
 use Rattle.play_command.specs.Asked.{named_file}
 use Rattle.play_command.specs.contracts.line.InputPartialEq.TheImpl as input_eq
-use Rattle.play_program.specs.Calls.{Told, out_of_memory}
+use Rattle.play_program.specs.Calls.{OneFile, Told, out_of_memory}
 use Rattle.play_program.specs.Calls.Told.{clashing, faulty}
 
 -- a file that is read: its input, and its name
@@ -77,14 +77,13 @@ view_over (What.Edit what) Input.Script = Some (codes "guarded")
 view_over _ _ = None
 
 -- the output doesn't go over a file that is read, or may
-abbrev pub IsApart : (List ℕ → List ℕ → Option Bool) → What → List ℕ → FileName → Type 0
+abbrev pub IsApart : OneFile → What → List ℕ → FileName → Type 0
 IsApart one_file what output file =
     MayReplace what file.0 ⊎ IfSome (one_file output file.1) (λ same. false ≡ same)
 
 -- it would go over one of them, which is said, with the view that may, if there is one; or memory
 -- ran out
-abbrev pub IsClash : (List ℕ → List ℕ → Option Bool) → What → Option (List ℕ) → List FileName → Told
-    → Type 0
+abbrev pub IsClash : OneFile → What → Option (List ℕ) → List FileName → Told → Type 0
 IsClash one_file what None files said = ⊥
 IsClash one_file what (Some output) files said =
     ((file : FileName) × Contains files file × (¬ MayReplace what file.0)

@@ -1,10 +1,9 @@
 -- What the head of a log says differently from a request.
-use Rattle.std.specs.Prelude.{ℕ, ◌==◌, ◌&&◌, Bool, false, not, bytes_eq, nat_le, nat_lt, List, []}
-use Rattle.std.specs.Prelude.{◌∷◌, length, Option, None, Some, codes, if◌then◌else◌, unwrap_or}
+use Rattle.std.specs.Prelude.{ℕ, ◌==◌, Bool, false, not, bytes_eq, List, [], ◌∷◌, Option, None}
+use Rattle.std.specs.Prelude.{Some, codes, if◌then◌else◌, unwrap_or}
 use Rattle.std.specs.Option.{option_and_then, option_map_or, option_or}
-use Rattle.base_lines.specs.Bytes.{after_prefix, is_digit, number_of, prefix_while}
-use Rattle.base_lines.specs.Limits.{MAX_DIGITS}
 use Rattle.data_rows.specs.Fields.{fields}
+use Rattle.play_command.specs.Asked.{number_written}
 use Rattle.play_command.specs.declared.line.Input.{Input}
 use Rattle.play_command.specs.declared.line.Request.{Request}
 use Rattle.play_command.specs.declared.line.What.{What}
@@ -25,11 +24,8 @@ abbrev pub is_same_file : List ℕ → List ℕ → Bool
 is_same_file said given = bytes_eq (base_name said) (base_name given)
 
 -- 1 to 10 digits that write another number
-unfoldable pub is_other_seed : ℕ → List ℕ → Bool
-is_other_seed seed said =
-    let digits = prefix_while is_digit said in
-    length (after_prefix is_digit said) == 0 && nat_lt 0 (length digits)
-    && nat_le (length digits) MAX_DIGITS && not (number_of digits == seed)
+abbrev pub is_other_seed : ℕ → List ℕ → Bool
+is_other_seed seed said = option_map_or (λ number. not (number == seed)) (number_written said) false
 
 -- what a head says, as an option with the blank after it, or as no option
 abbrev pub Said : Type 0

@@ -2,5 +2,4 @@ pub mod Calls
 pub mod Ends
 pub mod Files
 pub mod Head
-pub mod Making
 pub mod Sources

@@ -6,9 +6,7 @@ ghost use Rattle.play_program.specs.Head.{base_name, head_notice, is_other_seed,
 ghost use Rattle.play_program.specs.Head.{other_said, said_in, seed_asked};
 
 use crate::files::file_of;
-use base_lines::bytes::{number_of, split_digits};
-use base_lines::limits::is_long_number;
-use play_command::{Input, Request, What};
+use play_command::{Input, Request, What, number_written};
 use play_machine::head::{first_file, head_of, value_of};
 
 /// What the head of a log says differently from a request, in printable ASCII.
@@ -53,15 +51,10 @@ fn is_same_file(said: &[u8], given: &str) -> bool
 }
 
 /// Whether 1 to 10 digits write another number.
-#[tactic(auto, unfolding(crate::specs::Head::is_other_seed))]
 fn is_other_seed(seed: u32, said: &[u8]) -> bool
     ensures { result ≡ is_other_seed seed said.now }
 {
-    let (digits, rest) = split_digits(said);
-    if !rest.is_empty() || digits.is_empty() || is_long_number(digits.len()) {
-        return false;
-    }
-    number_of(digits) != u64::from(seed)
+    number_written(said).is_some_and(|number| number != u64::from(seed))
 }
 
 /// The first of these that a head says differently: the database, its bindings, the seed.

@@ -5,7 +5,7 @@ ghost use Rattle.std.specs.List.{AllZip};
 ghost use Rattle.cave_play.specs.Sources.{InputTexts, Says, AreHeld, Leads};
 ghost use Rattle.play_command.specs.Asked.{named_file};
 ghost use Rattle.play_program.specs.Files.{log_count};
-ghost use Rattle.play_program.specs.Making.{AreListed, HasReadAll, IsMadeBy};
+ghost use Rattle.play_program.specs.Ends.{AreListed, HasReadAll, IsMadeBy};
 
 use crate::files::{file_of, log_count};
 use cave_play::inputs::Sources;

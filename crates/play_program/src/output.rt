@@ -12,7 +12,7 @@ use std::io::Write;
 pub struct Output<W> {
     pub writer: W,
     /// The reason of its last failure, if it failed.
-    reason: Option<io::Error>,
+    pub reason: Option<io::Error>,
 }
 
 impl<W> Output<W> {
@@ -25,13 +25,6 @@ impl<W> Output<W> {
             writer,
             reason: None,
         }
-    }
-
-    /// The reason of its last failure, if it failed.
-    pub fn reason(&self) -> Option<io::Error>
-        ensures { result ≡ self.now.reason }
-    {
-        self.reason
     }
 }
 

@@ -20,7 +20,7 @@ fn print<S: System, W: Write>(system: &mut S, text: &Error, output: &mut Output<
     match write!(output, "{text}") {
         Ok(()) => DONE,
         Err(reason) => {
-            let reason = output.reason().unwrap_or(reason);
+            let reason = output.reason.unwrap_or(reason);
             end_with(system, Message::Unprinted(reason))
         }
     }

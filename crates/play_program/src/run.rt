@@ -72,10 +72,7 @@ fn print<'a, W: Write>(output: &mut W, text: &[u8]) -> Result<(), Message<'a>>
     if text.is_empty() {
         return Ok(());
     }
-    match write_output(output, text) {
-        Ok(()) => Ok(()),
-        Err(fault) => Err(Message::Fault(fault, None)),
-    }
+    write_output(output, text).map_err(|fault| Message::Fault(fault, None))
 }
 
 /// Puts a whole output into a file.
@@ -154,7 +151,7 @@ fn tell_notices<S: System>(system: &mut S, request: &Request<'_>, edits: &Option
 {
     if let (What::Edit(asked), Some(run)) = (request.what, edits) {
         tell_refusals(system, request, asked, run);
-        let is_log = matches!(asked.editing.view, EditView::Log);
+        let is_log = asked.editing.view == EditView::Log;
         if !request.quiet && is_log && asked.editing.seed != run.seed {
             system.tell(Message::Reseeded(run.seed));
         }
@@ -200,6 +197,6 @@ pub fn run<S: System, W: Write>(
             tell_notices(system, request, &edits);
             DONE
         }
-        Err(message) => end_with(system, with_reason(message, output.reason())),
+        Err(message) => end_with(system, with_reason(message, output.reason)),
     }
 }

@@ -9,7 +9,7 @@ use Rattle.cave_play.specs.Sources.{InputTexts, next_log}
 use Rattle.cave_play.proofs.LogLemmas.{AllSay-some}
 use Rattle.cave_play.proofs.SourceLemmas.{said, some_bytes}
 use Rattle.play_program.specs.Files.{file_of}
-use Rattle.play_program.specs.Making.{made_by, unshown}
+use Rattle.play_program.specs.Ends.{made_by, unshown}
 use Rattle.std.specs.Result.{result_from_control_flow}
 use Rattle.play_program.proofs.MakeLemmas.{IsJudged, now_of_name}
 use Rattle.play_program.proofs.make.make.Goals as goal
