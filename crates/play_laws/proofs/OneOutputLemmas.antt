@@ -1,6 +1,6 @@
 -- Two outputs of the same inputs are the same.
 use Rattle.cave_play.proofs.ScriptLemmas.{same_items}
-use Rattle.std.proofs.Common.{◌≡◌, ℕ, Bool, List, subst, sym, ap, ◌∙◌}
+use Rattle.std.proofs.Common.{◌≡◌, ℕ, Bool, List, Some, subst, sym, ap, ◌∙◌}
 use Rattle.std.specs.Str.Lines.{lines}
 use Rattle.cave_data.specs.CaveView.{CaveView}
 use Rattle.cave_data.proofs.ReadLemmas.{same_cave}

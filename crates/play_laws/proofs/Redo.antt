@@ -1,5 +1,6 @@
 -- Edits that were taken back are done again.
-use Rattle.std.proofs.Common.{◌≡◌, ℕ, Bool, true, false, List, [], refl, sym, ap, ap₂, subst, ◌∙◌}
+use Rattle.std.proofs.Common.{◌≡◌, ℕ, Bool, true, false, List, [], refl, sym, ap, ap₂, Some, subst}
+use Rattle.std.proofs.Common.{◌∙◌}
 use Rattle.std.specs.Str.Lines.{lines}
 use Rattle.cave_data.specs.CaveView.{CaveView}
 use Rattle.play_laws.proofs.BytesLemmas.{by_lines, bytes_undone, ends_stay, lines_printed}
