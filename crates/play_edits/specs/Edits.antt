@@ -37,7 +37,8 @@ pub record IsMade (editing : Editing) (report : Option ReportView) (items : List
   pub outcomes : List ItemOutcome
   pub came : AreOutcomes old.machine.rules.cave.now old.every items old.game old.checkpoints
       outcomes
-  pub text : made.text.items ≡ printed_text (Some editing.view) (ends_after_items items old.game ends)
+  pub text : made.text.items
+      ≡ printed_text (Some editing.view) (ends_after_items items old.game ends)
       (view_text (Some editing.view) editing.guarded old.machine.rules.cave.now items old.game
       outcomes)
   pub reported : made.run.report.items ≡ view_text (option_map edit_view_of report) editing.guarded

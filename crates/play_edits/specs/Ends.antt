@@ -144,7 +144,8 @@ ends_after_items (item ∷ items) game ends =
 -- What is printed of the text that a view made. A line of a log has its own end. A line of the
 -- script has the usual one.
 abbrev pub printed_text : Option EditView → EndsOfLog → List ℕ → List ℕ
-printed_text (Some EditView.Log) ends text = with_line_ends ends.usual ends.unended ends.each (lines text)
+printed_text (Some EditView.Log) ends text =
+    with_line_ends ends.usual ends.unended ends.each (lines text)
 printed_text (Some EditView.Undo) ends text = with_line_ends ends.usual false [] (lines text)
 printed_text (Some EditView.Guarded) ends text = with_line_ends ends.usual false [] (lines text)
 printed_text _ ends text = text

@@ -76,7 +76,7 @@ text_at_end (Some EditView.Score) cave game played lines backs = score_text cave
 text_at_end (Some EditView.FinalState) cave game played lines backs = final_state_text cave game
 text_at_end _ cave game played lines backs = []
 
--- all that it writes, the last item first if that is what takes them back
+-- all that it writes; the items are taken back from the last one to the first
 abbrev pub view_text : Option EditView → Bool → CaveView → List Applied → Game → List ItemOutcome
     → List ℕ
 view_text view guarded cave items game outcomes =
